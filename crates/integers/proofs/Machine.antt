@@ -1,0 +1,68 @@
+-- What the machine says of signed numbers, said of the numbers. A signed local holds bits, so that a need speaks of `toZ w (ofZ w z)`, which is z where z fits. `search needs` reads that by itself in a goal; these laws read it in what a test told.
+use mathlib.Core.Path.{_≡_, refl, sym, ap, subst, _∙_}
+use mathlib.Core.Bool.{Bool, true, false}
+use Prim.Native.Nat.{ℕ, zero, suc, _/_, _^_, _<_, _≤_}
+use native.Mathlib.Nat.{div-le-self}
+use native.Mathlib.Omega.{arith}
+use borrow.Author.Tests.{eq-eqb, ne-eqb, eqb-true}
+use lib.IntN.{ℤ, pos, negsuc, negℤ}
+use lib.Signed.{mag, ltZ, leZ, quotZ}
+use mir.Syntax.{Width, w64}
+use mir.Val.{SFits, toZ, ofZ, hbits}
+use mir.Facts.{toZ-ofZ}
+use Rattle.integers.specs.Words.{_=?_}
+
+-- ---- equality as a test
+
+pub =?-refl : (z : ℤ) → (z =? z) ≡ true
+=?-refl (pos n) = eq-eqb n n refl
+=?-refl (negsuc n) = eq-eqb n n refl
+
+pub =?-yes : (a b : ℤ) → (a =? b) ≡ true → a ≡ b
+=?-yes (pos a) (pos b) e = ap pos (eqb-true a b e)
+=?-yes (pos a) (negsuc b) e = absurd (never e)
+  where
+    never : false ≡ true → ⊥
+    never e = let z : _≡_ {A = ℕ} 0 1 = cc in omega arith
+=?-yes (negsuc a) (pos b) e = absurd (never e)
+  where
+    never : false ≡ true → ⊥
+    never e = let z : _≡_ {A = ℕ} 0 1 = cc in omega arith
+=?-yes (negsuc a) (negsuc b) e = ap negsuc (eqb-true a b e)
+
+pub =?-no : (a b : ℤ) → (a ≡ b → ⊥) → (a =? b) ≡ false
+=?-no (pos a) (pos b) h = ne-eqb a b (λ e. h (ap pos e))
+=?-no (pos a) (negsuc b) h = refl
+=?-no (negsuc a) (pos b) h = refl
+=?-no (negsuc a) (negsuc b) h = ne-eqb a b (λ e. h (ap negsuc e))
+
+-- ---- a test of two numbers, as `c .if1 .taken` and `c .if1 .left` have it
+module _ {w : Width} {a b : ℤ} (f : SFits w a) (g : SFits w b) where
+  pub lt-told : {t : Bool} → ltZ (toZ w (ofZ w a)) (toZ w (ofZ w b)) ≡ t → ltZ a b ≡ t
+  lt-told e = simp (toZ-ofZ f, toZ-ofZ g) at e
+
+  pub le-told : {t : Bool} → leZ (toZ w (ofZ w a)) (toZ w (ofZ w b)) ≡ t → leZ a b ≡ t
+  le-told e = simp (toZ-ofZ f, toZ-ofZ g) at e
+
+  -- and `==` of their bits
+  pub eq-told : ofZ w a ≡ ofZ w b → (a =? b) ≡ true
+  eq-told e = subst (λ (z : ℤ). (a =? z) ≡ true) (sym (toZ-ofZ f) ∙ ap (toZ w) e ∙ toZ-ofZ g) (=?-refl a)
+
+  pub ne-told : (ofZ w a ≡ ofZ w b → ⊥) → (a =? b) ≡ false
+  ne-told h = =?-no a b (λ e. h (ap (ofZ w) e))
+
+-- the range of a call's result, `c .f .ok`
+pub ok-fits : {z : ℤ} → mag z < 2 ^ 63 → SFits w64 z
+ok-fits h = record { sfits = h }
+
+-- a quotient by a natural number fits where the dividend does
+pub quot-fits : {w : Width} (a : ℤ) (d : ℕ) → SFits w a → SFits w (quotZ a (pos d))
+quot-fits {w} a d f = record { sfits = by a (2 ^ hbits w) (f .sfits) }
+  where
+    neg : (q n : ℕ) → zero < n → q ≤ n → mag (negℤ (pos q)) < n
+    neg zero n g h = g
+    neg (suc q) n g h = h
+
+    by : (a : ℤ) (n : ℕ) → mag a < n → mag (quotZ a (pos d)) < n
+    by (pos a) n h = omega (arith, div-le-self a d)
+    by (negsuc a) n h = neg (suc a / d) n (omega arith) (omega (arith, div-le-self (suc a) d))

@@ -1,0 +1,48 @@
+-- The table's rules, each by a test that is computed over the rows.
+use mathlib.Core.Path.{_≡_, refl, sym, ap, subst, _∙_}
+use mathlib.Core.Bool.{Bool, true, false}
+use mathlib.Core.List.{List, [], _∷_}
+use Prim.Native.Nat.{ℕ, suc, _+_, _-_, _≤_, _<_}
+use native.Mathlib.Omega.{arith}
+use borrow.Author.Tests.{eqb-true, ne-eqb}
+use Rattle.integers.specs.Words.{each, _is_}
+use Rattle.integers.proofs.Each.{each-at}
+use Rattle.objects.specs.Table.{objects, columnsAt, rowAt}
+use Rattle.objects.specs.Lookup.{placeFrom, placeOf}
+use Rattle.objects.specs.declared.Columns.{Columns}
+use Rattle.objects.specs.declared.Place.{Place}
+use Rattle.objects.specs.declared.Place.the-variants.{At, Nowhere}
+
+abbrev pub isAt : Place → ℕ → Bool
+isAt (At place) k = place is k
+isAt Nowhere k = false
+
+is-at : (p : Place) (k : ℕ) → isAt p k ≡ true → p ≡ At k
+is-at (At place) k e = ap At (eqb-true place k e)
+is-at Nowhere k e = let z : false ≡ true = e in cc
+
+-- each row is found by its index
+pub each-row-is-found : (k : ℕ) → k < 22 → placeOf (rowAt k .index) ≡ At k
+unfolding each placeOf placeFrom objects
+each-row-is-found k h = is-at (placeOf (rowAt k .index)) k (each-at 22 (λ k. isAt (placeOf (rowAt k .index)) k) k refl h)
+
+-- a run of n consecutive indexes, in consecutive rows: the test over it is computed
+pub run-is-found : (place from n : ℕ) → each n (λ j. isAt (placeOf (from + j)) (place + j)) ≡ true → (index : ℕ) → from ≤ index → index < from + n → placeOf index ≡ At (place + (index - from))
+run-is-found place from n t index h k =
+    let e : index ≡ from + (index - from) = omega arith in
+    ap placeOf e ∙ is-at (placeOf (from + (index - from))) (place + (index - from)) (each-at n (λ j. isAt (placeOf (from + j)) (place + j)) (index - from) t (omega arith))
+
+-- no row has this index
+abbrev pub Absent : List Columns → ℕ → Type 0
+Absent [] index = Unit {0}
+Absent (row ∷ rows) index = (row .0 ≡ index → ⊥) × Absent rows index
+
+absent-from : (place : ℕ) (rows : List Columns) (index : ℕ) → Absent rows index → placeFrom place rows index ≡ Nowhere
+unfolding placeFrom
+absent-from place [] index h = refl
+absent-from place (row ∷ rows) index h = rw (ne-eqb (row .0) index (h .0)) (absent-from (suc place) rows index (h .1))
+
+-- an index that no row has is found nowhere
+pub no-other-index : (index : ℕ) → Absent objects index → placeOf index ≡ Nowhere
+unfolding placeOf
+no-other-index index h = absent-from 0 objects index h

@@ -1,0 +1,32 @@
+-- A single index is found by computation, and a run where the table has it, by its computed test. What no arm takes is no row's index.
+use mathlib.Core.Path.{refl, sym, _∙_}
+use native.Mathlib.Omega.{arith}
+use Rattle.integers.specs.Words.{each}
+use Rattle.objects.specs.Table.{objects}
+use Rattle.objects.specs.Lookup.{placeFrom, placeOf}
+use Rattle.objects.proofs.Rules.{run-is-found, no-other-index}
+use Rattle.objects.proofs.place_of.Statement.{statement}
+use Rattle.objects.proofs.place_of.Tie as tie
+
+pub place-of-spec : {M : Type 1} → statement M
+unfolding objects
+place-of-spec =
+    tie.close
+    (tie.spec
+    (λ c κs. omega arith)
+    (λ c κs. omega arith)
+    (λ c κs. omega arith)
+    (λ c κs. omega arith)
+    (λ c. unfold placeOf placeFrom in rw (c .match .keys1))
+    (λ c. unfold placeOf placeFrom in rw (c .match .keys2))
+    (λ c. unfold placeOf placeFrom in rw (c .match .keys3))
+    (λ c. unfold placeOf placeFrom in rw (c .match .keys4))
+    (λ c. c .in-run .ensures ∙ sym (run-is-found 18 0x6040 2 (unfold each placeOf placeFrom in refl) _ (omega arith) (omega arith)))
+    (λ c. c .in-run2 .ensures ∙ sym (run-is-found 1 0x6320 5 (unfold each placeOf placeFrom in refl) _ (omega arith) (omega arith)))
+    (λ c. c .in-run3 .ensures ∙ sym (run-is-found 6 0x6330 7 (unfold each placeOf placeFrom in refl) _ (omega arith) (omega arith)))
+    (λ c. c .in-run4 .ensures ∙ sym (run-is-found 13 0x6342 4 (unfold each placeOf placeFrom in refl) _ (omega arith) (omega arith)))
+    (λ c. sym (no-other-index _ (omega arith)))
+    (λ c. sym (no-other-index _ (omega arith)))
+    (λ c. sym (no-other-index _ (omega arith)))
+    (λ c. sym (no-other-index _ (omega arith)))
+    (λ c. sym (no-other-index _ (omega arith))))

@@ -1,0 +1,75 @@
+-- The places of the objects in the table: the 17 stored settings in tag order (a tag is the place and one), then the others.
+use Prim.Native.Nat.{ℕ}
+
+abbrev pub HOLD-SET-POINT : ℕ
+HOLD-SET-POINT = 0
+
+abbrev pub UPPER-LIMIT : ℕ
+UPPER-LIMIT = 1
+
+abbrev pub LOWER-LIMIT : ℕ
+LOWER-LIMIT = 2
+
+abbrev pub SCALING-FACTOR : ℕ
+SCALING-FACTOR = 3
+
+abbrev pub SCALING-OFFSET : ℕ
+SCALING-OFFSET = 4
+
+abbrev pub ZERO-CORRECTION : ℕ
+ZERO-CORRECTION = 5
+
+abbrev pub RAMP-TYPE : ℕ
+RAMP-TYPE = 6
+
+abbrev pub ACCELERATION : ℕ
+ACCELERATION = 7
+
+abbrev pub ACCELERATION-POSITIVE : ℕ
+ACCELERATION-POSITIVE = 8
+
+abbrev pub ACCELERATION-NEGATIVE : ℕ
+ACCELERATION-NEGATIVE = 9
+
+abbrev pub DECELERATION : ℕ
+DECELERATION = 10
+
+abbrev pub DECELERATION-POSITIVE : ℕ
+DECELERATION-POSITIVE = 11
+
+abbrev pub DECELERATION-NEGATIVE : ℕ
+DECELERATION-NEGATIVE = 12
+
+abbrev pub DEAD-BAND-TYPE : ℕ
+DEAD-BAND-TYPE = 13
+
+abbrev pub A-SIDE : ℕ
+A-SIDE = 14
+
+abbrev pub B-SIDE : ℕ
+B-SIDE = 15
+
+abbrev pub THRESHOLD : ℕ
+THRESHOLD = 16
+
+abbrev pub SET-POINT : ℕ
+SET-POINT = 17
+
+abbrev pub CONTROL-WORD : ℕ
+CONTROL-WORD = 18
+
+abbrev pub STATUS-WORD : ℕ
+STATUS-WORD = 19
+
+abbrev pub ERROR-CODE : ℕ
+ERROR-CODE = 20
+
+abbrev pub COMMAND : ℕ
+COMMAND = 21
+
+-- how many objects are stored settings, and how many there are in all
+abbrev pub SETTINGS : ℕ
+SETTINGS = 17
+
+abbrev pub ROWS : ℕ
+ROWS = 22
