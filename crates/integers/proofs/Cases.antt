@@ -1,6 +1,6 @@
 -- A test has two outcomes: what is shown from each holds. Laws on a choice by a test, and on two tests that agree.
 use mathlib.Core.Path.{_≡_, refl, sym, _∙_}
-use mathlib.Core.Bool.{Bool, true, false, cond}
+use mathlib.Core.Bool.{Bool, true, false, cond, true≢false}
 use Prim.Native.Nat.{ℕ, _≤_, _<_}
 use native.Mathlib.Omega.{arith}
 use borrow.Author.Tests.{ltb-true, ltb-false, lt-ltb, le-ltb}
@@ -23,6 +23,10 @@ by-less a b f g = by-cases (ltb a b) (λ e. f (ltb-true a b e)) (λ e. g (ltb-fa
 
 pub by-less-ℤ {ℓ} : (a b : ℤ) {X : Type ℓ} → (a <ℤ b → X) → (b ≤ℤ a → X) → X
 by-less-ℤ a b f g = by-cases (ltZ a b) (λ e. f (omega (arith, ints))) (λ e. g (omega (arith, ints)))
+
+-- no test has both outcomes
+pub clash {ℓ} : {X : Type ℓ} {t : Bool} → t ≡ true → t ≡ false → X
+clash e f = absurd (true≢false (sym e ∙ f))
 
 -- two tests agree where each outcome of the first is the second's
 pub ltb-same : (a b c d : ℕ) → (a < b → c < d) → (b ≤ a → d ≤ c) → ltb c d ≡ ltb a b

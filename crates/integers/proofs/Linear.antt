@@ -115,6 +115,13 @@ pub abs-nat : (z : ℤ) → natAbs z ≡ (up z - dn z) + (dn z - up z)
 abs-nat (pos n) = omega arith
 abs-nat (negsuc n) = omega arith
 
+-- and with no difference, where the sign is known
+pub abs-high : (z : ℤ) → pos 0 ≤ℤ z → natAbs z + dn z ≡ up z
+abs-high z h = omega (arith, le-nat h, abs-nat z)
+
+pub abs-low : (z : ℤ) → z ≤ℤ pos 0 → natAbs z + up z ≡ dn z
+abs-low z h = omega (arith, le-nat h, abs-nat z)
+
 pub mag-nat : (z : ℤ) → mag z ≡ (up z - dn z) + (dn z - up z - 1)
 mag-nat (pos n) = omega arith
 mag-nat (negsuc n) = omega arith

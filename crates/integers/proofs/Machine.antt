@@ -11,6 +11,7 @@ use mir.Syntax.{Width, w64}
 use mir.Val.{SFits, toZ, ofZ, hbits}
 use mir.Facts.{toZ-ofZ}
 use Rattle.integers.specs.Words.{_=?_}
+use Rattle.integers.proofs.Cases.{clash}
 
 -- ---- equality as a test
 
@@ -20,14 +21,8 @@ pub =?-refl : (z : ℤ) → (z =? z) ≡ true
 
 pub =?-yes : (a b : ℤ) → (a =? b) ≡ true → a ≡ b
 =?-yes (pos a) (pos b) e = ap pos (eqb-true a b e)
-=?-yes (pos a) (negsuc b) e = absurd (never e)
-  where
-    never : false ≡ true → ⊥
-    never e = let z : _≡_ {A = ℕ} 0 1 = cc in omega arith
-=?-yes (negsuc a) (pos b) e = absurd (never e)
-  where
-    never : false ≡ true → ⊥
-    never e = let z : _≡_ {A = ℕ} 0 1 = cc in omega arith
+=?-yes (pos a) (negsuc b) e = clash refl (sym e)
+=?-yes (negsuc a) (pos b) e = clash refl (sym e)
 =?-yes (negsuc a) (negsuc b) e = ap negsuc (eqb-true a b e)
 
 pub =?-no : (a b : ℤ) → (a ≡ b → ⊥) → (a =? b) ≡ false

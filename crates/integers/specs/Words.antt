@@ -3,9 +3,10 @@ use mathlib.Core.Bool.{Bool, true, false, cond, _&&_}
 use Prim.Native.Nat.{ℕ, zero, suc}
 use lib.Dec.{eqb, ltb}
 use lib.IntN.{ℤ, pos, negsuc, negℤ}
-use lib.Signed.{ltZ, leZ}
+use lib.Signed.{ltZ, leZ, quotZ}
 
-infix 20 if_then_else_
+infixr 5 if_then_else_
+infixl 7 _over_
 infix 50 _<?_ _≤?_ _=?_ _is_ _below_
 -- the first value where the test holds, and else the second
 abbrev pub if_then_else_ : {A : Type 0} → Bool → A → A → A
@@ -14,6 +15,10 @@ if t then a else b = cond t a b
 -- the number below zero
 abbrev pub minus : ℕ → ℤ
 minus n = negℤ (pos n)
+
+-- divided by n toward zero: the fraction is dropped on both signs
+abbrev pub _over_ : ℤ → ℕ → ℤ
+z over n = quotZ z (pos n)
 
 -- tests of whole numbers
 abbrev pub _<?_ : ℤ → ℤ → Bool

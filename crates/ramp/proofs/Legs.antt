@@ -1,0 +1,187 @@
+-- What the travel asks of `stop` and `stride`: on the way to the first stop neither changes, from there the ticks stop next at the target, and at the target they stay.
+use mathlib.Core.Bool.{Bool, true, false, not, cond, _&&_, _||_, and-false}
+use mathlib.Core.Path.{_≡_, refl, sym, ap, _∙_, subst}
+use mathlib.Core.Logic.{_≢_}
+use Prim.Native.Nat.{ℕ, zero, suc, _*_, _≤_, _<_}
+use native.Mathlib.Omega.{arith}
+use borrow.Author.Tests.{lt-ltb, le-ltb, ltb-true, ltb-false}
+use lib.Dec.{ltb}
+use lib.IntN.{ℤ, pos, natAbs}
+use lib.Signed.{ltZ, _≤ℤ_, _<ℤ_}
+use Rattle.integers.specs.Words.{_=?_}
+use Rattle.integers.proofs.Linear.{ints, abs-high, abs-low}
+use Rattle.integers.proofs.Cases.{by-cases, by-less-ℤ, ltb-same, ltZ-same}
+use Rattle.ramp.specs.Ramp.{sideOf, backTime, opposite, decelerates, distance, moved, ramped, stop, stride, stepOf, awayTime}
+use Rattle.ramp.specs.declared.Ramp.{Ramp}
+use Rattle.ramp.proofs.Moves.{by-move, moved-none, distance-self}
+
+-- ---- sides of zero
+
+-- t and p are on opposite sides
+pub data Across (t p : ℤ) : Type 0 where
+  falling : t <ℤ pos 0 → pos 0 <ℤ p → Across t p
+  rising : p <ℤ pos 0 → pos 0 <ℤ t → Across t p
+
+-- t and p are on one side, or one of them is at zero
+pub data Beside (t p : ℤ) : Type 0 where
+  high : pos 0 ≤ℤ t → pos 0 ≤ℤ p → Beside t p
+  low : t ≤ℤ pos 0 → p ≤ℤ pos 0 → Beside t p
+
+across : {t p : ℤ} → Across t p → opposite t p ≡ true
+unfolding opposite
+across {t} {p} (falling h k) =
+    let a : ltZ t (pos 0) ≡ true = omega (arith, ints) in
+    let b : ltZ (pos 0) p ≡ true = omega (arith, ints) in
+    rw (a, b)
+across {t} {p} (rising h k) =
+    let a : ltZ t (pos 0) ≡ false = omega (arith, ints) in
+    let b : ltZ p (pos 0) ≡ true = omega (arith, ints) in
+    let d : ltZ (pos 0) t ≡ true = omega (arith, ints) in
+    rw (a, b, d)
+
+pub beside : {t p : ℤ} → Beside t p → opposite t p ≡ false
+unfolding opposite
+beside {t} {p} (high h k) =
+    let a : ltZ t (pos 0) ≡ false = omega (arith, ints) in
+    let b : ltZ p (pos 0) ≡ false = omega (arith, ints) in
+    rw (a, b)
+beside {t} {p} (low h k) =
+    let a : ltZ (pos 0) p ≡ false = omega (arith, ints) in
+    let b : ltZ (pos 0) t ≡ false = omega (arith, ints) in
+    simp (a, b, and-false)
+
+-- one or the other
+pub by-side {ℓ} : (t p : ℤ) {X : Type ℓ} → (Across t p → X) → (Beside t p → X) → X
+by-side t p f g =
+    by-less-ℤ t (pos 0)
+    (λ a. by-less-ℤ (pos 0) p (λ b. f (falling a b)) (λ b. g (low (omega (arith, ints)) b)))
+    (λ a. by-less-ℤ p (pos 0)
+    (λ b. by-less-ℤ (pos 0) t (λ d. f (rising b d)) (λ d. g (low d (omega (arith, ints)))))
+    (λ b. g (high a b)))
+
+-- ---- on the way
+
+-- q lies between p, included, and g
+pub data Between (p q g : ℤ) : Type 0 where
+  upward : p ≤ℤ q → q <ℤ g → Between p q g
+  downward : q ≤ℤ p → g <ℤ q → Between p q g
+
+pub between : (g : ℤ) (m : ℕ) (p : ℤ) → m < distance p g → Between p (moved g m p) g
+between g m p h =
+    by-move g m p
+    (λ w. upward (omega (arith, ints)) (omega (arith, ints)))
+    (λ w. downward (omega (arith, ints)) (omega (arith, ints)))
+
+-- the tests at q are those at p
+pub record Same (t p q : ℤ) : Type 0 where
+  pub sides : opposite t q ≡ opposite t p
+  pub slows : decelerates t q ≡ decelerates t p
+  pub signs : decelerates t p ≡ true → ltZ q (pos 0) ≡ ltZ p (pos 0)
+
+-- toward zero, from the far side
+crossing : (t p q : ℤ) → Across t p → Across t q → ltZ q (pos 0) ≡ ltZ p (pos 0) → Same t p q
+unfolding decelerates
+crossing t p q a b e = record { sides = across b ∙ sym (across a); slows = rw (across a, across b); signs = λ s. e }
+
+to-zero : (t p q : ℤ) → Across t p → Between p q (pos 0) → Same t p q
+to-zero t p q (falling a b) (upward c d) = absurd (omega (arith, ints))
+to-zero t p q (falling a b) (downward c d) =
+    crossing t p q (falling a b) (falling a d) (ltZ-same p (pos 0) q (pos 0) (λ n. omega (arith, ints)) (λ n. omega (arith, ints)))
+to-zero t p q (rising a b) (upward c d) =
+    crossing t p q (rising a b) (rising d b) (ltZ-same p (pos 0) q (pos 0) (λ n. omega (arith, ints)) (λ n. omega (arith, ints)))
+to-zero t p q (rising a b) (downward c d) = absurd (omega (arith, ints))
+
+-- on the target's side: neither p nor q is farther out than t, or both are
+module _ (t p q : ℤ) (b : Beside t p) (d : Beside t q) where
+  outward : natAbs p ≤ natAbs t → natAbs q ≤ natAbs t → Same t p q
+  unfolding decelerates
+  outward h k =
+      let e : decelerates t p ≡ false = rw (beside b, le-ltb (natAbs t) (natAbs p) h) in
+      let f : decelerates t q ≡ false = rw (beside d, le-ltb (natAbs t) (natAbs q) k) in
+      record { sides = beside d ∙ sym (beside b); slows = f ∙ sym e; signs = λ s. let z : true ≡ false = sym s ∙ e in cc }
+
+  inward : natAbs t < natAbs p → natAbs t < natAbs q → ltZ q (pos 0) ≡ ltZ p (pos 0) → Same t p q
+  unfolding decelerates
+  inward h k g =
+      let e : decelerates t p ≡ true = rw (beside b, lt-ltb (natAbs t) (natAbs p) h) in
+      let f : decelerates t q ≡ true = rw (beside d, lt-ltb (natAbs t) (natAbs q) k) in
+      record { sides = beside d ∙ sym (beside b); slows = f ∙ sym e; signs = λ s. g }
+
+to-target : (t p q : ℤ) → Beside t p → Between p q t → Same t p q
+to-target t p q (high a b) (upward c d) =
+    let e : pos 0 ≤ℤ q = omega (arith, ints) in
+    outward t p q (high a b) (high a e) (omega (arith, ints, abs-high t a, abs-high p b)) (omega (arith, ints, abs-high t a, abs-high q e))
+to-target t p q (high a b) (downward c d) =
+    let e : pos 0 ≤ℤ q = omega (arith, ints) in
+    inward t p q (high a b) (high a e) (omega (arith, ints, abs-high t a, abs-high p b)) (omega (arith, ints, abs-high t a, abs-high q e)) (ltZ-same p (pos 0) q (pos 0) (λ n. omega (arith, ints)) (λ n. e))
+to-target t p q (low a b) (upward c d) =
+    let e : q ≤ℤ pos 0 = omega (arith, ints) in
+    inward t p q (low a b) (low a e) (omega (arith, ints, abs-low t a, abs-low p b)) (omega (arith, ints, abs-low t a, abs-low q e)) (ltZ-same p (pos 0) q (pos 0) (λ n. omega (arith, ints)) (λ n. omega (arith, ints)))
+to-target t p q (low a b) (downward c d) =
+    let e : q ≤ℤ pos 0 = omega (arith, ints) in
+    outward t p q (low a b) (low a e) (omega (arith, ints, abs-low t a, abs-low p b)) (omega (arith, ints, abs-low t a, abs-low q e))
+
+-- ---- the first stop
+
+-- where it is: at the target, but at zero on a ramp from the far side
+stop-across : (r : Ramp) (t p : ℤ) → ramped r ≡ true → Across t p → stop r t p ≡ pos 0
+unfolding stop
+stop-across r t p k a = simp (k, across a)
+
+pub stop-beside : (r : Ramp) (t p : ℤ) → Beside t p → stop r t p ≡ t
+unfolding stop
+stop-beside r t p b = simp (beside b, and-false)
+
+pub stop-unramped : (r : Ramp) (t p : ℤ) → ramped r ≡ false → stop r t p ≡ t
+unfolding stop
+stop-unramped r t p k = simp k
+
+-- the three ways of a position: at once, by zero, and straight
+pub by-leg {ℓ} : (r : Ramp) (t p : ℤ) {X : Type ℓ} → (ramped r ≡ false → stop r t p ≡ t → X) → (ramped r ≡ true → Across t p → stop r t p ≡ pos 0 → X) → (ramped r ≡ true → Beside t p → stop r t p ≡ t → X) → X
+by-leg r t p f g h =
+    by-cases (ramped r)
+    (λ k. by-side t p (λ a. g k a (stop-across r t p k a)) (λ b. h k b (stop-beside r t p b)))
+    (λ k. f k (stop-unramped r t p k))
+
+pub at-target : (r : Ramp) (t : ℤ) → stop r t t ≡ t
+at-target r t = stop-beside r t t (by-less-ℤ t (pos 0) (λ l. low (omega (arith, ints)) (omega (arith, ints))) (λ l. high l l))
+
+-- from the first stop the ticks stop next at the target
+pub then-target : (r : Ramp) (t p : ℤ) → stop r t (stop r t p) ≡ t
+then-target r t p =
+    by-leg r t p
+    (λ k e. rw (e, at-target r t))
+    (λ k a e. rw e (stop-beside r t (pos 0) (by-less-ℤ t (pos 0) (λ l. low (omega (arith, ints)) (omega (arith, ints))) (λ l. high l (omega (arith, ints))))))
+    (λ k b e. rw (e, at-target r t))
+
+-- on the way to the first stop neither it nor the step changes
+pub record Steady (r : Ramp) (t p q : ℤ) : Type 0 where
+  pub stops : stop r t q ≡ stop r t p
+  pub strides : stride r t q ≡ stride r t p
+
+by-tests : (r : Ramp) (t p q : ℤ) → ramped r ≡ true → Same t p q → Steady r t p q
+unfolding stop stride backTime sideOf
+by-tests r t p q k s =
+    record {
+      stops = rw (s .sides);
+      strides = by-cases (decelerates t p)
+          (λ e. rw (s .slows, k, e, s .signs e))
+          (λ e. rw (s .slows, k, e));
+    }
+
+-- with no ramp a step is the whole way, so that the first tick is the last
+pub at-once : (r : Ramp) (t p : ℤ) → ramped r ≡ false → stride r t p ≡ distance p t
+unfolding stride
+at-once r t p k = simp k
+
+none-yet : (n d : ℕ) → n * d < d → n * d ≡ 0
+none-yet zero d h = omega arith
+none-yet (suc n) d h = absurd (omega arith)
+
+pub steady : (r : Ramp) (t p : ℤ) (n : ℕ) → n * stride r t p < distance p (stop r t p) → Steady r t p (moved (stop r t p) (n * stride r t p) p)
+steady r t p n h =
+    by-leg r t p
+    (λ k e. let z : n * stride r t p ≡ 0 = rw (at-once r t p k) (none-yet n (distance p t) (rw (at-once r t p k, e) at h)) in
+    rw (z, moved-none) (record { stops = refl; strides = refl }))
+    (λ k a e. by-tests r t p _ k (rw e (to-zero t p _ a (rw e at (between (stop r t p) (n * stride r t p) p h)))))
+    (λ k b e. by-tests r t p _ k (rw e (to-target t p _ b (rw e at (between (stop r t p) (n * stride r t p) p h)))))

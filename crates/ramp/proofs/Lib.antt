@@ -1,0 +1,8 @@
+pub mod Moves
+pub mod Legs
+pub mod Rounding
+pub mod Bounds
+pub mod Travel
+pub mod Demand
+pub mod Examples
+pub mod Machine

@@ -1,0 +1,128 @@
+-- Document 01, "Ramp". A position p and a target t are whole numbers in 1/65,536 ir; steps, distances and ticks count from zero up.
+use mathlib.Core.Bool.{Bool, not, _&&_, _||_}
+use Prim.Native.Nat.{ℕ, zero, suc, _+_, _-_, _*_, _/_, _≤_, max}
+use lib.IntN.{ℤ, pos, natAbs, _+ℤ_, _-ℤ_}
+use Rattle.integers.specs.Words.{if_then_else_, minus, _<?_, _=?_, _below_}
+use Rattle.integers.specs.Range.{Within}
+use Rattle.ramp.specs.declared.Times.{Times}
+use Rattle.ramp.specs.declared.Ramp.{Ramp}
+
+-- full stroke, from zero to either end
+abbrev pub FULL-STROKE : ℕ
+FULL-STROKE = 1073741824
+
+-- ---- times and steps
+
+-- the time of the side of zero on which z is
+unfoldable pub sideOf : Times → ℤ → ℤ
+sideOf times z = if z <? pos 0 then times .negative else times .positive
+
+-- the time away from zero, on the side of z: 6331h in types 1 and 2, 6332h or 6333h in type 3
+unfoldable pub awayTime : Ramp → ℤ → ℤ
+awayTime r z =
+    if r .kind =? pos 3 then sideOf (r .acceleration) z
+    else r .acceleration .one
+
+-- the time toward zero, on the side of z: 6331h in type 1, 6334h in type 2, 6335h or 6336h in type 3
+unfoldable pub backTime : Ramp → ℤ → ℤ
+backTime r z =
+    if r .kind =? pos 3 then sideOf (r .deceleration) z
+    else if r .kind =? pos 2 then r .deceleration .one
+    else r .acceleration .one
+
+-- the step of a time: full stroke over it, the fraction dropped; time 0 has the step of time 1
+unfoldable pub stepOf : ℤ → ℕ
+stepOf time = FULL-STROKE / max (natAbs time) 1
+
+-- ---- one tick
+
+-- p is on the far side of zero from t
+unfoldable pub opposite : ℤ → ℤ → Bool
+opposite t p = (t <? pos 0 && pos 0 <? p) || (p <? pos 0 && pos 0 <? t)
+
+-- p is on the far side of zero from t, or farther out than t
+unfoldable pub decelerates : ℤ → ℤ → Bool
+decelerates t p = opposite t p || natAbs t below natAbs p
+
+-- how far p is from g
+unfoldable pub distance : ℤ → ℤ → ℕ
+distance p g = natAbs (p -ℤ g)
+
+-- p moved by m toward g
+unfoldable pub toward : ℤ → ℕ → ℤ → ℤ
+toward g m p = if p <? g then p +ℤ pos m else p -ℤ pos m
+
+-- p moved by m toward g, stopping at g
+unfoldable pub moved : ℤ → ℕ → ℤ → ℤ
+moved g m p = if m below distance p g then toward g m p else g
+
+-- types 1 to 3 have a ramp
+abbrev pub ramped : Ramp → Bool
+ramped r = not (r .kind =? pos 0)
+
+-- where the ticks from p stop first: on a ramp at zero if p is on the far side of it, and else at the target
+unfoldable pub stop : Ramp → ℤ → ℤ → ℤ
+stop r t p = if ramped r && opposite t p then pos 0 else t
+
+-- by how much a tick moves from p: with no ramp the whole way; on a ramp toward zero on p's own side, or away from it on the target's
+unfoldable pub stride : Ramp → ℤ → ℤ → ℕ
+stride r t p =
+    if not (ramped r) then distance p t
+    else if decelerates t p then stepOf (backTime r p)
+    else stepOf (awayTime r t)
+
+-- the position after one tick
+unfoldable pub tickOf : Ramp → ℤ → ℤ → ℤ
+tickOf r t p = moved (stop r t p) (stride r t p) p
+
+-- the position after n single ticks
+unfoldable pub ticked : Ramp → ℤ → ℤ → ℕ → ℤ
+ticked r t p zero = p
+ticked r t p (suc n) = tickOf r t (ticked r t p n)
+
+-- ---- ticks to go, and the closed formula
+
+-- the ticks to the first stop: the distance over the step, rounded up
+unfoldable pub legTicks : Ramp → ℤ → ℤ → ℕ
+legTicks r t p = (distance p (stop r t p) + (stride r t p - 1)) / stride r t p
+
+-- the ticks to the first stop and from there to the target, which are none if that is the target
+unfoldable pub ticksToGo : Ramp → ℤ → ℤ → ℕ
+ticksToGo r t p = legTicks r t p + legTicks r t (stop r t p)
+
+-- the position after n ticks: n steps toward the first stop; from the tick k on that meets it, n - k steps from there to the target; then the target
+unfoldable pub positionAfter : Ramp → ℤ → ℤ → ℕ → ℤ
+positionAfter r t p n =
+    let g = stop r t p in
+    let k = legTicks r t p in
+    if n below k then toward g (n * stride r t p) p
+    else if n below ticksToGo r t p then toward t ((n - k) * stride r t g) g
+    else t
+
+-- ---- what is sound
+
+-- within full stroke
+pub record Inside (p : ℤ) : Type 0 where
+  pub inside : natAbs p ≤ FULL-STROKE
+
+-- the range of a time
+abbrev pub Timed : ℤ → Type 0
+Timed time = Within (pos 0) (pos 3600000) time
+
+-- each of three times in its range
+pub record AllTimed (times : Times) : Type 0 where
+  pub one : Timed (times .one)
+  pub positive : Timed (times .positive)
+  pub negative : Timed (times .negative)
+
+-- the type and each time in its range
+pub record Sound (r : Ramp) : Type 0 where
+  pub kind : Within (pos 0) (pos 3) (r .kind)
+  pub acceleration : AllTimed (r .acceleration)
+  pub deceleration : AllTimed (r .deceleration)
+
+-- what the functions of the ramp ask: a sound ramp, and target and position within full stroke
+pub record Way (r : Ramp) (t p : ℤ) : Type 0 where
+  pub ramp : Sound r
+  pub target : Inside t
+  pub position : Inside p

@@ -1,0 +1,201 @@
+// The ramp: one tick, a jump of n ticks, and the ticks to go.
+ghost use mathlib.Core.Path.{_≡_};
+ghost use Prim.Native.Nat.{_≤_, _<_};
+ghost use lib.IntN.{natAbs};
+ghost use Rattle.ramp.specs.Ramp.{
+  sideOf,
+  awayTime,
+  backTime,
+  stepOf,
+  tickOf,
+  legTicks,
+  ticksToGo,
+  positionAfter,
+  Inside,
+  Timed,
+  Way,
+};
+ghost use Rattle.ramp.specs.Ramp as Ramps;
+
+// The times of 6331h to 6333h, or of 6334h to 6336h.
+pub struct Times {
+    pub one: i64,
+    pub positive: i64,
+    pub negative: i64,
+}
+
+// The ramp type, 6330h, and its times.
+pub struct Ramp {
+    pub kind: i64,
+    pub acceleration: Times,
+    pub deceleration: Times,
+}
+
+const FULL_STROKE: u64 = 1073741824;
+
+// The number without its sign.
+fn size(z: i64) -> u64
+    requires { ⌜ natAbs z ≤ 2147483648 ⌝ }
+    ensures { λ r. ⌜ r ≡ natAbs z ⌝ }
+{
+    if z < 0 { (0 - z) as u64 } else { z as u64 }
+}
+
+fn side_of(times: Times, z: i64) -> i64
+    ensures { λ r. ⌜ r ≡ sideOf times z ⌝ }
+{
+    if z < 0 {
+        times.negative
+    } else {
+        times.positive
+    }
+}
+
+fn away_time(ramp: Ramp, z: i64) -> i64
+    ensures { λ r. ⌜ r ≡ awayTime ramp z ⌝ }
+{
+    let times = ramp.acceleration;
+    if ramp.kind == 3 {
+        side_of(times, z)
+    } else {
+        times.one
+    }
+}
+
+fn back_time(ramp: Ramp, z: i64) -> i64
+    ensures { λ r. ⌜ r ≡ backTime ramp z ⌝ }
+{
+    let times = ramp.deceleration;
+    if ramp.kind == 3 {
+        return side_of(times, z);
+    }
+    if ramp.kind == 2 {
+        return times.one;
+    }
+    let times = ramp.acceleration;
+    times.one
+}
+
+// Full stroke over the time; time 0 has the step of time 1.
+fn step_of(time: i64) -> u64
+    requires { ⌜ Timed time ⌝ }
+    ensures { λ r. ⌜ r ≡ stepOf time ⌝ }
+{
+    let time = size(time);
+    if time == 0 {
+        FULL_STROKE
+    } else {
+        FULL_STROKE / time
+    }
+}
+
+fn opposite(t: i64, p: i64) -> bool
+    ensures { λ r. ⌜ r ≡ Ramps.opposite t p ⌝ }
+{
+    t < 0 && 0 < p || p < 0 && 0 < t
+}
+
+fn distance(p: i64, g: i64) -> u64
+    requires { ⌜ Inside p ⌝ }
+    requires { ⌜ Inside g ⌝ }
+    ensures { λ r. ⌜ r ≡ Ramps.distance p g ⌝ }
+{
+    size(p - g)
+}
+
+fn toward(g: i64, m: u64, p: i64) -> i64
+    requires { ⌜ m ≤ 2147483648 ⌝ }
+    requires { ⌜ Inside p ⌝ }
+    ensures { λ r. ⌜ r ≡ Ramps.toward g m p ⌝ }
+{
+    if p < g {
+        p + (m as i64)
+    } else {
+        p - (m as i64)
+    }
+}
+
+fn moved(g: i64, m: u64, p: i64) -> i64
+    requires { ⌜ Inside g ⌝ }
+    requires { ⌜ Inside p ⌝ }
+    ensures { λ r. ⌜ r ≡ Ramps.moved g m p ⌝ }
+{
+    if m < distance(p, g) {
+        toward(g, m, p)
+    } else {
+        g
+    }
+}
+
+fn stop(ramp: Ramp, t: i64, p: i64) -> i64
+    requires { ⌜ Inside t ⌝ }
+    ensures { λ r. ⌜ r ≡ Ramps.stop ramp t p ⌝ }
+    ensures { λ r. ⌜ Inside r ⌝ }
+{
+    if ramp.kind != 0 && opposite(t, p) {
+        0
+    } else {
+        t
+    }
+}
+
+// The time is picked first, so that there is one division.
+fn stride(ramp: Ramp, t: i64, p: i64) -> u64
+    requires { ⌜ Way ramp t p ⌝ }
+    ensures { λ r. ⌜ r ≡ Ramps.stride ramp t p ⌝ }
+{
+    if ramp.kind == 0 {
+        return distance(p, t);
+    }
+    if opposite(t, p) {
+        return step_of(back_time(ramp, p));
+    }
+    if size(t) < size(p) {
+        return step_of(back_time(ramp, p));
+    }
+    step_of(away_time(ramp, t))
+}
+
+fn leg_ticks(ramp: Ramp, t: i64, p: i64) -> u64
+    requires { ⌜ Way ramp t p ⌝ }
+    ensures { λ r. ⌜ r ≡ legTicks ramp t p ⌝ }
+{
+    let step = stride(ramp, t, p);
+    let way = distance(p, stop(ramp, t, p));
+    if step == 0 {
+        0
+    } else {
+        (way + (step - 1)) / step
+    }
+}
+
+// The ticks until the target is met.
+pub fn ticks_to_go(ramp: Ramp, t: i64, p: i64) -> u32
+    requires { ⌜ Way ramp t p ⌝ }
+    ensures { λ r. ⌜ r ≡ ticksToGo ramp t p ⌝ }
+{
+    let k = leg_ticks(ramp, t, p);
+    (k + leg_ticks(ramp, t, stop(ramp, t, p))) as u32
+}
+
+// One tick.
+pub fn tick(ramp: Ramp, t: i64, p: i64) -> i64
+    requires { ⌜ Way ramp t p ⌝ }
+    ensures { λ r. ⌜ r ≡ tickOf ramp t p ⌝ }
+{
+    moved(stop(ramp, t, p), stride(ramp, t, p), p)
+}
+
+// n ticks at once, by the closed formula.
+pub fn jump(ramp: Ramp, t: i64, p: i64, n: u32) -> i64
+    requires { ⌜ Way ramp t p ⌝ }
+    ensures { λ r. ⌜ r ≡ positionAfter ramp t p n ⌝ }
+{
+    let n = n as u64;
+    let k = leg_ticks(ramp, t, p);
+    let g = stop(ramp, t, p);
+    if n < k {
+        return moved(g, n * stride(ramp, t, p), p);
+    }
+    moved(t, (n - k) * stride(ramp, t, g), g)
+}
