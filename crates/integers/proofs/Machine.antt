@@ -5,11 +5,12 @@ use Prim.Native.Nat.{ℕ, zero, suc, _/_, _^_, _<_, _≤_}
 use native.Mathlib.Nat.{div-le-self}
 use native.Mathlib.Omega.{arith}
 use borrow.Author.Tests.{eq-eqb, ne-eqb, eqb-true}
-use lib.IntN.{ℤ, pos, negsuc, negℤ}
-use lib.Signed.{mag, ltZ, leZ, quotZ}
+use lib.Dec.{T, ltb}
+use lib.IntN.{ℤ, pos, negsuc, negℤ, natAbs}
+use lib.Signed.{mag, ltZ, leZ, quotZ, nonNeg, _≤ℤ_, yes-nonNeg}
 use mir.Syntax.{Width, w64}
-use mir.Val.{SFits, toZ, ofZ, hbits}
-use mir.Facts.{toZ-ofZ}
+use mir.Val.{Fits, SFits, toZ, ofZ, hbits}
+use mir.Facts.{toZ-ofZ, sfits-lit, fits-natAbs}
 use Rattle.integers.specs.Words.{_=?_}
 use Rattle.integers.proofs.Cases.{clash}
 
@@ -61,3 +62,18 @@ quot-fits {w} a d f = record { sfits = by a (2 ^ hbits w) (f .sfits) }
     by : (a : ℤ) (n : ℕ) → mag a < n → mag (quotZ a (pos d)) < n
     by (pos a) n h = omega (arith, div-le-self a d)
     by (negsuc a) n h = neg (suc a / d) n (omega arith) (omega (arith, div-le-self (suc a) d))
+
+-- a call's result, read back: `c .f .ok` and `c .f .ensures`
+pub result-told : {z y : ℤ} → mag z < 2 ^ 63 → z ≡ y → toZ w64 (ofZ w64 z) ≡ y
+result-told f e = toZ-ofZ (ok-fits f) ∙ e
+
+-- a number that is not below zero, cast to u64
+pub unsigned : {z : ℤ} → SFits w64 z → pos 0 ≤ℤ z → T (nonNeg z) × Fits w64 (natAbs z)
+unsigned f h = (yes-nonNeg h, fits-natAbs {w = w64} tt f)
+
+-- `==` and `!=` with a literal, as `eq-literal (pos 3) tt fit told`
+pub eq-literal : {a : ℤ} (b : ℤ) → T (ltb (mag b) (2 ^ 63)) → SFits w64 a → ofZ w64 a ≡ ofZ w64 b → (a =? b) ≡ true
+eq-literal b t f e = eq-told f (sfits-lit t) e
+
+pub ne-literal : {a : ℤ} (b : ℤ) → T (ltb (mag b) (2 ^ 63)) → SFits w64 a → (ofZ w64 a ≡ ofZ w64 b → ⊥) → (a =? b) ≡ false
+ne-literal b t f h = ne-told f (sfits-lit t) h

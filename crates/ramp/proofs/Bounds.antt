@@ -2,10 +2,12 @@
 use mathlib.Core.Bool.{Bool, true, false, cond}
 use mathlib.Core.Path.{_≡_, refl, sym, ap, _∙_, subst}
 use Prim.Native.Nat.{ℕ, _+_, _-_, _*_, _/_, _≤_, _<_, min, max}
-use native.Mathlib.Nat.{le-div-iff-mul-le, div-le-self}
+use native.Mathlib.Nat.{le-div-iff-mul-le, div-le-self, mul-le-mul-right}
 use native.Mathlib.Omega.{arith}
 use lib.IntN.{ℤ, pos, natAbs, _-ℤ_}
 use lib.Signed.{ltZ, _≤ℤ_, _<ℤ_}
+use mir.Syntax.{w64}
+use mir.Val.{Fits}
 use Rattle.integers.specs.Words.{_=?_}
 use Rattle.integers.proofs.Linear.{ints, up, dn, abs-nat, abs-high, sub-nat}
 use Rattle.integers.proofs.Cases.{by-test, by-cases, clash}
@@ -120,3 +122,7 @@ latest {r} {t} {p} w =
   where
     leg : {p : ℤ} → Way r t p → ramped r ≡ true → legTicks r t p ≤ 3603161
     leg {p} w k = leg-in r t p 3603161 (omega (arith, leg-short w k, stride-paced (w .ramp) t p k .slowest))
+
+-- a count of 32 bits times a step
+pub product-fits : {n s : ℕ} → n ≤ 4294967295 → s ≤ 2147483648 → Fits w64 (n * s)
+product-fits {n} {s} h k = record { fits = omega (arith, mul-le-mul-right s h) }

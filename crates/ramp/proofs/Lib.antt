@@ -5,4 +5,3 @@ pub mod Bounds
 pub mod Travel
 pub mod Demand
 pub mod Examples
-pub mod Machine

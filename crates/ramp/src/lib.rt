@@ -95,6 +95,14 @@ fn opposite(t: i64, p: i64) -> bool
     t < 0 && 0 < p || p < 0 && 0 < t
 }
 
+fn decelerates(t: i64, p: i64) -> bool
+    requires { ⌜ Inside t ⌝ }
+    requires { ⌜ Inside p ⌝ }
+    ensures { λ r. ⌜ r ≡ Ramps.decelerates t p ⌝ }
+{
+    opposite(t, p) || size(t) < size(p)
+}
+
 fn distance(p: i64, g: i64) -> u64
     requires { ⌜ Inside p ⌝ }
     requires { ⌜ Inside g ⌝ }
@@ -147,10 +155,7 @@ fn stride(ramp: Ramp, t: i64, p: i64) -> u64
     if ramp.kind == 0 {
         return distance(p, t);
     }
-    if opposite(t, p) {
-        return step_of(back_time(ramp, p));
-    }
-    if size(t) < size(p) {
+    if decelerates(t, p) {
         return step_of(back_time(ramp, p));
     }
     step_of(away_time(ramp, t))

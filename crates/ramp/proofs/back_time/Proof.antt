@@ -4,8 +4,7 @@ use borrow.Author.Needs.{needs}
 use lib.IntN.{pos}
 use mir.Syntax.{w64}
 use mir.Val.{SFits}
-use mir.Facts.{toZ-ofZ, sfits-lit}
-use Rattle.integers.proofs.Machine.{eq-told, ne-told, ok-fits}
+use Rattle.integers.proofs.Machine.{eq-literal, ne-literal, result-told}
 use Rattle.ramp.specs.Ramp.{backTime}
 use Rattle.ramp.proofs.back_time.Statement.{statement}
 use Rattle.ramp.proofs.back_time.Tie as tie
@@ -21,12 +20,12 @@ back-time-spec =
     (λ c κs. search needs)
     (λ c.
     let k = kind-fits (c .before .before .before .before .before) in
-    toZ-ofZ (ok-fits (c .side-of .ok)) ∙ c .side-of .ensures ∙ search (needs, eq-told {b = pos 3} k (sfits-lit tt) (c .before .if1 .taken)))
+    result-told (c .side-of .ok) (c .side-of .ensures) ∙ search (needs, eq-literal (pos 3) tt k (c .before .if1 .taken)))
     (λ c.
     let e = c .before .before .before .before in
     let k = kind-fits (e .before .before .before .before) in
-    search (needs, ne-told {b = pos 3} k (sfits-lit tt) (e .if1 .left), eq-told {b = pos 2} k (sfits-lit tt) (c .before .if2 .taken)))
+    search (needs, ne-literal (pos 3) tt k (e .if1 .left), eq-literal (pos 2) tt k (c .before .if2 .taken)))
     (λ c.
     let e = c .before .before .before .before .before in
     let k = kind-fits (e .before .before .before .before) in
-    search (needs, ne-told {b = pos 3} k (sfits-lit tt) (e .if1 .left), ne-told {b = pos 2} k (sfits-lit tt) (c .before .before .if2 .left))))
+    search (needs, ne-literal (pos 3) tt k (e .if1 .left), ne-literal (pos 2) tt k (c .before .before .if2 .left))))

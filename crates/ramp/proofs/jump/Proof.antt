@@ -8,7 +8,8 @@ use mir.Facts.{toZ-ofZ}
 use Rattle.ramp.specs.Ramp.{stop, stride, legTicks}
 use Rattle.ramp.proofs.Bounds.{stride-most, way-on}
 use Rattle.ramp.proofs.Travel.{before, after}
-use Rattle.ramp.proofs.Machine.{result-told, product-fits}
+use Rattle.integers.proofs.Machine.{result-told}
+use Rattle.ramp.proofs.Bounds.{product-fits}
 use Rattle.ramp.proofs.jump.Statement.{statement}
 use Rattle.ramp.proofs.jump.Tie as tie
 

@@ -3,7 +3,7 @@ use mathlib.Core.Path.{_∙_}
 use borrow.Author.Needs.{needs}
 use mir.Facts.{toZ-ofZ}
 use Rattle.ramp.specs.Ramp.{tickOf}
-use Rattle.ramp.proofs.Machine.{result-told}
+use Rattle.integers.proofs.Machine.{result-told}
 use Rattle.ramp.proofs.tick.Statement.{statement}
 use Rattle.ramp.proofs.tick.Tie as tie
 

@@ -1,12 +1,10 @@
 -- Each leg's ticks are the definition's, and so is their sum, which is small.
-use mathlib.Core.Path.{_≡_}
 use native.Mathlib.Omega.{arith}
 use borrow.Author.Needs.{needs}
-use Prim.Native.Nat.{_+_}
 use mir.Facts.{toZ-ofZ}
 use Rattle.ramp.specs.Ramp.{ticksToGo}
 use Rattle.ramp.proofs.Bounds.{latest}
-use Rattle.ramp.proofs.Machine.{result-told}
+use Rattle.integers.proofs.Machine.{result-told}
 use Rattle.ramp.proofs.ticks_to_go.Statement.{statement}
 use Rattle.ramp.proofs.ticks_to_go.Tie as tie
 
