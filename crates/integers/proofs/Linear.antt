@@ -6,7 +6,7 @@ use mathlib.Core.Path.{_≡_, refl, sym, ap, subst}
 use mathlib.Core.Bool.{Bool, true, false, not, cond}
 use Prim.Native.Nat.{ℕ, zero, suc, _+_, _-_, _*_, _^_, _≤_, _<_}
 use native.Mathlib.Omega.{arith}
-use borrow.Author.Tests.{lt-ltb, le-ltb, leb-false}
+use borrow.Author.Tests.{lt-ltb, le-ltb, le-leb, leb-false}
 use lib.Dec.{T, ltb, leb, ltb→lt, nltb→le, leb→le, le→leb, lt→ltb}
 use lib.IntN.{ℤ, pos, negsuc, negℤ, natAbs, subℕ, _+ℤ_, _-ℤ_, _*ℤ_}
 use lib.Signed.{mag, ltZ, leZ, _≤ℤ_, _<ℤ_, leZ-yes, ltZ-yes, ltZ-no}
@@ -86,6 +86,12 @@ nat-test-ge (pos a) (negsuc b) h = refl
 nat-test-ge (negsuc a) (pos b) h = absurd (omega arith)
 nat-test-ge (negsuc a) (negsuc b) h = le-ltb b a (omega arith)
 
+pub nat-test-le : (a b : ℤ) → up a + dn b ≤ up b + dn a → leZ a b ≡ true
+nat-test-le (pos a) (pos b) h = le-leb a b (omega arith)
+nat-test-le (pos a) (negsuc b) h = absurd (omega arith)
+nat-test-le (negsuc a) (pos b) h = refl
+nat-test-le (negsuc a) (negsuc b) h = le-leb b a (omega arith)
+
 -- ---- the operations
 
 pub neg-nat : (a : ℤ) → up (negℤ a) + up a ≡ dn (negℤ a) + dn a
@@ -139,4 +145,4 @@ abs-mul (negsuc a) (negsuc b) = refl
 pub nat-fits : {w : Width} (z : ℤ) → (up z - dn z) + (dn z - up z) < 2 ^ hbits w → SFits w z
 nat-fits z h = record { sfits = omega (arith, mag-nat z) }
 
-pub ruleset ints = (le-nat, lt-nat, eq-nat, test-lt, test-ge, test-le, test-gt, nat-le, nat-lt, nat-eq, nat-test-lt, nat-test-ge, nat-fits)
+pub ruleset ints = (le-nat, lt-nat, eq-nat, test-lt, test-ge, test-le, test-gt, nat-le, nat-lt, nat-eq, nat-test-lt, nat-test-ge, nat-test-le, nat-fits)

@@ -1,7 +1,7 @@
 // The object table of document 01. What is read, written, kept sound, stored and loaded goes by its rows.
 ghost use mathlib.Core.Path.{_≡_};
 ghost use Prim.Native.Nat.{_+_, _-_, _<_, _≤_};
-ghost use Rattle.objects.specs.Table.{columnsAt, rowAt};
+ghost use Rattle.objects.specs.Table.{columnsAt, sizeOf, rowAt};
 ghost use Rattle.objects.specs.Lookup.{placeOf, entryAt};
 
 // An object by the names of its columns: the range and the fresh value of its value, its index, what it consists of, and how
@@ -68,310 +68,58 @@ pub const COMMAND: usize = 21;
 
 pub const ROWS: usize = 22;
 
-// A row as the table prints it: index, entries, size in bytes, sign, access, lock, kind, range, fresh value.
-pub struct Columns(
-    pub u16,
-    pub u8,
-    pub u8,
-    pub bool,
-    pub bool,
-    pub bool,
-    pub bool,
-    pub i64,
-    pub i64,
-    pub i64,
-);
+// A row as the table prints it: index, entries, type, access, range, fresh value.
+pub struct Columns(pub u16, pub u8, pub u8, pub u8, pub i64, pub i64, pub i64);
 
-// entries: a variable has none
+// The entries: a variable has none.
 const VARIABLE: u8 = 0;
 
 const RECORD: u8 = 1;
 
 const TIMES: u8 = 3;
 
-const SIGNED: bool = true;
+// The types, the signed ones first.
+const I8: u8 = 0;
 
-const UNSIGNED: bool = false;
+const I16: u8 = 1;
 
-const WRITABLE: bool = true;
+const U16: u8 = 2;
 
-const READ_ONLY: bool = false;
+const U32: u8 = 3;
 
-// lock: not to be written while ACTIVE
-const LOCKED: bool = true;
+// The access: read only; written in every state; locked while ACTIVE; so locked, and a choice among numbered kinds, of which
+// too high and too low are the same mistake.
+const READ_ONLY: u8 = 0;
 
-const FREE: bool = false;
+const FREE: u8 = 1;
 
-// kind: a choice among numbered kinds, of which too high and too low are the same mistake
-const CHOICE: bool = true;
+const LOCKED: u8 = 2;
 
-const NUMBER: bool = false;
+const CHOICE: u8 = 3;
 
 const OBJECTS: [Columns; 22] = [
-    Columns(
-        0x6314,
-        RECORD,
-        2,
-        SIGNED,
-        WRITABLE,
-        FREE,
-        NUMBER,
-        -32768,
-        32767,
-        0,
-    ), // hold set point
-    Columns(
-        0x6320,
-        RECORD,
-        2,
-        SIGNED,
-        WRITABLE,
-        FREE,
-        NUMBER,
-        -32768,
-        32767,
-        16384,
-    ), // upper limit
-    Columns(
-        0x6321,
-        RECORD,
-        2,
-        SIGNED,
-        WRITABLE,
-        FREE,
-        NUMBER,
-        -32768,
-        32767,
-        -16384,
-    ), // lower limit
-    Columns(
-        0x6322,
-        VARIABLE,
-        4,
-        UNSIGNED,
-        WRITABLE,
-        FREE,
-        NUMBER,
-        0,
-        4294967295,
-        65536,
-    ), // scaling factor
-    Columns(
-        0x6323,
-        RECORD,
-        2,
-        SIGNED,
-        WRITABLE,
-        FREE,
-        NUMBER,
-        -32768,
-        32767,
-        0,
-    ), // scaling offset
-    Columns(
-        0x6324,
-        RECORD,
-        2,
-        SIGNED,
-        WRITABLE,
-        FREE,
-        NUMBER,
-        -32768,
-        32767,
-        0,
-    ), // zero correction
-    Columns(
-        0x6330,
-        VARIABLE,
-        1,
-        SIGNED,
-        WRITABLE,
-        LOCKED,
-        CHOICE,
-        0,
-        3,
-        0,
-    ), // ramp type
-    Columns(
-        0x6331,
-        TIMES,
-        4,
-        UNSIGNED,
-        WRITABLE,
-        LOCKED,
-        NUMBER,
-        0,
-        3600000,
-        0,
-    ), // acceleration time: one
-    Columns(
-        0x6332,
-        TIMES,
-        4,
-        UNSIGNED,
-        WRITABLE,
-        LOCKED,
-        NUMBER,
-        0,
-        3600000,
-        0,
-    ), // positive
-    Columns(
-        0x6333,
-        TIMES,
-        4,
-        UNSIGNED,
-        WRITABLE,
-        LOCKED,
-        NUMBER,
-        0,
-        3600000,
-        0,
-    ), // negative
-    Columns(
-        0x6334,
-        TIMES,
-        4,
-        UNSIGNED,
-        WRITABLE,
-        LOCKED,
-        NUMBER,
-        0,
-        3600000,
-        0,
-    ), // deceleration time: one
-    Columns(
-        0x6335,
-        TIMES,
-        4,
-        UNSIGNED,
-        WRITABLE,
-        LOCKED,
-        NUMBER,
-        0,
-        3600000,
-        0,
-    ), // positive
-    Columns(
-        0x6336,
-        TIMES,
-        4,
-        UNSIGNED,
-        WRITABLE,
-        LOCKED,
-        NUMBER,
-        0,
-        3600000,
-        0,
-    ), // negative
-    Columns(
-        0x6342,
-        VARIABLE,
-        1,
-        SIGNED,
-        WRITABLE,
-        LOCKED,
-        CHOICE,
-        0,
-        1,
-        0,
-    ), // dead band type
-    Columns(
-        0x6343,
-        RECORD,
-        2,
-        SIGNED,
-        WRITABLE,
-        LOCKED,
-        NUMBER,
-        0,
-        4096,
-        0,
-    ), // dead band A side
-    Columns(
-        0x6344,
-        RECORD,
-        2,
-        SIGNED,
-        WRITABLE,
-        LOCKED,
-        NUMBER,
-        0,
-        4096,
-        0,
-    ), // dead band B side
-    Columns(
-        0x6345,
-        RECORD,
-        2,
-        SIGNED,
-        WRITABLE,
-        LOCKED,
-        NUMBER,
-        0,
-        16384,
-        0,
-    ), // dead band threshold
-    Columns(
-        0x6300,
-        RECORD,
-        2,
-        SIGNED,
-        WRITABLE,
-        FREE,
-        NUMBER,
-        -32768,
-        32767,
-        0,
-    ), // set point
-    Columns(
-        0x6040,
-        VARIABLE,
-        2,
-        UNSIGNED,
-        WRITABLE,
-        FREE,
-        NUMBER,
-        0,
-        65535,
-        0,
-    ), // control word
-    Columns(
-        0x6041,
-        VARIABLE,
-        2,
-        UNSIGNED,
-        READ_ONLY,
-        FREE,
-        NUMBER,
-        0,
-        65535,
-        0,
-    ), // status word
-    Columns(
-        0x604E,
-        VARIABLE,
-        2,
-        UNSIGNED,
-        READ_ONLY,
-        FREE,
-        NUMBER,
-        0,
-        65535,
-        0,
-    ), // error code
-    Columns(
-        0x6310,
-        RECORD,
-        2,
-        SIGNED,
-        READ_ONLY,
-        FREE,
-        NUMBER,
-        -32768,
-        32767,
-        0,
-    ), // command
+    Columns(0x6314, RECORD, I16, FREE, -32768, 32767, 0), // hold set point
+    Columns(0x6320, RECORD, I16, FREE, -32768, 32767, 16384), // upper limit
+    Columns(0x6321, RECORD, I16, FREE, -32768, 32767, -16384), // lower limit
+    Columns(0x6322, VARIABLE, U32, FREE, 0, 4294967295, 65536), // scaling factor
+    Columns(0x6323, RECORD, I16, FREE, -32768, 32767, 0), // scaling offset
+    Columns(0x6324, RECORD, I16, FREE, -32768, 32767, 0), // zero correction
+    Columns(0x6330, VARIABLE, I8, CHOICE, 0, 3, 0), // ramp type
+    Columns(0x6331, TIMES, U32, LOCKED, 0, 3600000, 0), // acceleration time: one
+    Columns(0x6332, TIMES, U32, LOCKED, 0, 3600000, 0), // positive
+    Columns(0x6333, TIMES, U32, LOCKED, 0, 3600000, 0), // negative
+    Columns(0x6334, TIMES, U32, LOCKED, 0, 3600000, 0), // deceleration time: one
+    Columns(0x6335, TIMES, U32, LOCKED, 0, 3600000, 0), // positive
+    Columns(0x6336, TIMES, U32, LOCKED, 0, 3600000, 0), // negative
+    Columns(0x6342, VARIABLE, I8, CHOICE, 0, 1, 0), // dead band type
+    Columns(0x6343, RECORD, I16, LOCKED, 0, 4096, 0), // dead band A side
+    Columns(0x6344, RECORD, I16, LOCKED, 0, 4096, 0), // dead band B side
+    Columns(0x6345, RECORD, I16, LOCKED, 0, 16384, 0), // dead band threshold
+    Columns(0x6300, RECORD, I16, FREE, -32768, 32767, 0), // set point
+    Columns(0x6040, VARIABLE, U16, FREE, 0, 65535, 0), // control word
+    Columns(0x6041, VARIABLE, U16, READ_ONLY, 0, 65535, 0), // status word
+    Columns(0x604E, VARIABLE, U16, READ_ONLY, 0, 65535, 0), // error code
+    Columns(0x6310, RECORD, I16, READ_ONLY, -32768, 32767, 0), // command
 ];
 
 // The columns at a place. Only this function reads the table.
@@ -382,23 +130,36 @@ fn columns_at(place: usize) -> Columns
     OBJECTS[place]
 }
 
+// A type's bytes.
+fn size_of(kind: u8) -> u8
+    ensures { λ r. ⌜ r ≡ sizeOf kind ⌝ }
+{
+    match kind {
+        I8 => 1,
+        U32 => 4,
+        _ => 2,
+    }
+}
+
 // The row at a place.
 pub fn row_at(place: usize) -> Row
     requires { ⌜ place < 22 ⌝ }
     ensures { λ r. ⌜ r ≡ rowAt place ⌝ }
 {
     let columns = columns_at(place);
+    let kind = columns.2;
+    let access = columns.3;
     Row {
-        low: columns.7,
-        high: columns.8,
-        fresh: columns.9,
+        low: columns.4,
+        high: columns.5,
+        fresh: columns.6,
         index: columns.0,
         entries: columns.1,
-        size: columns.2,
-        signed: columns.3,
-        writable: columns.4,
-        locked: columns.5,
-        choice: columns.6,
+        size: size_of(kind),
+        signed: kind < U16,
+        writable: access != READ_ONLY,
+        locked: FREE < access,
+        choice: access == CHOICE,
     }
 }
 
