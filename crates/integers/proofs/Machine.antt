@@ -1,18 +1,25 @@
 -- What the machine says of signed numbers, said of the numbers. A signed local holds bits, so that a need speaks of `toZ w (ofZ w z)`, which is z where z fits. `search needs` reads that by itself in a goal; these laws read it in what a test told.
 use mathlib.Core.Path.{_≡_, refl, sym, ap, subst, _∙_}
 use mathlib.Core.Bool.{Bool, true, false}
+use mathlib.Core.List.{List}
 use Prim.Native.Nat.{ℕ, zero, suc, _/_, _^_, _<_, _≤_}
 use native.Mathlib.Nat.{div-le-self}
 use native.Mathlib.Omega.{arith}
-use borrow.Author.Tests.{eq-eqb, ne-eqb, eqb-true}
-use lib.Dec.{T, ltb}
+use borrow.Author.Called.{Called}
+use borrow.Author.Tests.{eq-eqb, ne-eqb, eqb-true, eqb-false}
+use borrow.Fn.Kinds.{PK, Dens, rSNum}
+use borrow.Fn.Args.{ArgsT, argsV}
+use borrow.Table.Row.{Cx}
+use borrow.Table.Typed.{Mo}
+use contract.Lifetimes.{Lfts}
+use lib.Dec.{T, ltb, eqb}
 use lib.IntN.{ℤ, pos, negsuc, negℤ, natAbs}
 use lib.Signed.{mag, ltZ, leZ, quotZ, nonNeg, _≤ℤ_, yes-nonNeg}
 use mir.Syntax.{Width, w64}
 use mir.Val.{Fits, SFits, toZ, ofZ, hbits}
 use mir.Facts.{toZ-ofZ, sfits-lit, fits-natAbs}
 use Rattle.integers.specs.Words.{_=?_}
-use Rattle.integers.proofs.Cases.{clash}
+use Rattle.integers.proofs.Cases.{by-cases, clash}
 
 -- ---- equality as a test
 
@@ -77,3 +84,15 @@ eq-literal b t f e = eq-told f (sfits-lit t) e
 
 pub ne-literal : {a : ℤ} (b : ℤ) → T (ltb (mag b) (2 ^ 63)) → SFits w64 a → (ofZ w64 a ≡ ofZ w64 b → ⊥) → (a =? b) ≡ false
 ne-literal b t f h = ne-told f (sfits-lit t) h
+
+-- the result of a call, `c .f`, that ensures which number it is
+pub told :
+    {ps : List (PK 0)} {f : (κs : Lfts 0) → Dens κs ps → ℤ} {Γ : Cx} {ar : ArgsT ps (Γ .locals)} {u : Mo Γ} →
+    (c : Called ps (rSNum w64) (λ κs a z e. z ≡ f κs a) Γ ar u) →
+    toZ w64 (ofZ w64 (c .result)) ≡ f (c .lifetimes) (argsV (c .lifetimes) ps (Γ .locals) ar u)
+told c = result-told (c .ok) (c .ensures)
+
+-- `==` as a value
+pub same-told : {w : Width} {a b : ℤ} → SFits w a → SFits w b → eqb (ofZ w a) (ofZ w b) ≡ (a =? b)
+same-told {w} {a} {b} f g =
+    by-cases (eqb (ofZ w a) (ofZ w b)) (λ e. e ∙ sym (eq-told f g (eqb-true _ _ e))) (λ e. e ∙ sym (ne-told f g (eqb-false _ _ e)))

@@ -1,0 +1,5 @@
+pub mod Stored
+pub mod Sound
+pub mod Laws
+pub mod Travel
+pub mod Examples

@@ -1,0 +1,5 @@
+pub mod Target
+pub mod Command
+pub mod Sound
+pub mod Travel
+pub mod Asked

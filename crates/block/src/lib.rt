@@ -1,0 +1,294 @@
+// A value chain: from the set point by the settings to the target, along the ramp to the position, and on to the command.
+ghost use mathlib.Core.Path.{_≡_};
+ghost use Prim.Native.Nat.{_<_};
+ghost use Rattle.integers.specs.Words.{_=?_};
+ghost use Rattle.integers.specs.Range.{Within};
+ghost use Rattle.block.specs.Target.{at, setting, inputOf, clampTo, clampToStroke, scaledBy, targetFrom, targetOf, targetPosition};
+ghost use Rattle.block.specs.Command.{wholeOf, bandedBy, commandOf};
+ghost use Rattle.block.specs.Command as Commands;
+ghost use Rattle.block.specs.Sound.{liesIn, soundSettings, soundBlock, Sound, freshBlock};
+ghost use Rattle.block.specs.Travel.{rampOf, atPosition, tickBlock, jumpBlock, ticksToGoOf};
+ghost use Rattle.block.specs.Asked.{Scaling, Chain, Band};
+use objects::A_SIDE;
+use objects::ACCELERATION;
+use objects::ACCELERATION_NEGATIVE;
+use objects::ACCELERATION_POSITIVE;
+use objects::B_SIDE;
+use objects::DEAD_BAND_TYPE;
+use objects::DECELERATION;
+use objects::DECELERATION_NEGATIVE;
+use objects::DECELERATION_POSITIVE;
+use objects::HOLD_SET_POINT;
+use objects::LOWER_LIMIT;
+use objects::RAMP_TYPE;
+use objects::SCALING_FACTOR;
+use objects::SCALING_OFFSET;
+use objects::SET_POINT;
+use objects::SETTINGS;
+use objects::THRESHOLD;
+use objects::UPPER_LIMIT;
+use objects::ZERO_CORRECTION;
+use ramp::Ramp;
+use ramp::Times;
+
+pub struct Block {
+    pub setpoint: i64,
+    // in 1/65,536 ir
+    pub position: i64,
+    // by their places in the object table
+    pub settings: [i64; 17],
+}
+
+const STROKE: i64 = 16384;
+
+const FULL_STROKE: i64 = 1073741824;
+
+// How many parts make an ir, and what factor is one.
+const ONE: i64 = 65536;
+
+pub fn setting(block: Block, place: usize) -> i64
+    requires { ⌜ place < 17 ⌝ }
+    ensures { λ r. ⌜ r ≡ setting block place ⌝ }
+{
+    let settings = block.settings;
+    settings[place]
+}
+
+fn clamp_to(lower: i64, upper: i64, x: i64) -> i64
+    ensures { λ r. ⌜ r ≡ clampTo lower upper x ⌝ }
+{
+    if x < lower {
+        lower
+    } else if upper < x {
+        upper
+    } else {
+        x
+    }
+}
+
+fn clamp_to_stroke(x: i64) -> i64
+    ensures { λ r. ⌜ r ≡ clampToStroke x ⌝ }
+{
+    clamp_to(-STROKE, STROKE, x)
+}
+
+// Division drops the fraction on both signs.
+fn scaled_by(factor: i64, x: i64) -> i64
+    requires { ⌜ Scaling factor x ⌝ }
+    ensures { λ r. ⌜ r ≡ scaledBy factor x ⌝ }
+{
+    x * factor / ONE
+}
+
+fn target_from(lower: i64, upper: i64, factor: i64, offset: i64, zero: i64, input: i64) -> i64
+    requires { ⌜ Chain lower upper factor offset zero input ⌝ }
+    ensures { λ r. ⌜ r ≡ targetFrom lower upper factor offset zero input ⌝ }
+{
+    let scaled = scaled_by(factor, clamp_to(lower, upper, input));
+    clamp_to_stroke(scaled + offset + zero)
+}
+
+fn input(block: Block, active: bool) -> i64
+    ensures { λ r. ⌜ r ≡ inputOf active block ⌝ }
+{
+    if active {
+        block.setpoint
+    } else {
+        setting(block, HOLD_SET_POINT)
+    }
+}
+
+// The target in ir. `active` says whether the input is the set point or the hold set point.
+pub fn target(block: Block, active: bool) -> i64
+    requires { ⌜ Sound block ⌝ }
+    ensures { λ r. ⌜ r ≡ targetOf active block ⌝ }
+{
+    target_from(
+        setting(block, LOWER_LIMIT),
+        setting(block, UPPER_LIMIT),
+        setting(block, SCALING_FACTOR),
+        setting(block, SCALING_OFFSET),
+        setting(block, ZERO_CORRECTION),
+        input(block, active),
+    )
+}
+
+fn target_position(block: Block, active: bool) -> i64
+    requires { ⌜ Sound block ⌝ }
+    ensures { λ r. ⌜ r ≡ targetPosition active block ⌝ }
+{
+    target(block, active) * ONE
+}
+
+fn whole_of(position: i64) -> i64
+    ensures { λ r. ⌜ r ≡ wholeOf position ⌝ }
+{
+    position / ONE
+}
+
+fn banded(a_side: i64, b_side: i64, threshold: i64, r: i64) -> i64
+    requires { ⌜ Band «a_side» «b_side» threshold r ⌝ }
+    ensures { λ c. ⌜ c ≡ Commands.banded «a_side» «b_side» threshold r ⌝ }
+{
+    if threshold < r {
+        r + a_side
+    } else if r < -threshold {
+        r - b_side
+    } else {
+        0
+    }
+}
+
+fn banded_by(kind: i64, a_side: i64, b_side: i64, threshold: i64, r: i64) -> i64
+    requires { ⌜ Band «a_side» «b_side» threshold r ⌝ }
+    ensures { λ c. ⌜ c ≡ bandedBy kind «a_side» «b_side» threshold r ⌝ }
+{
+    if kind == 0 {
+        r
+    } else {
+        banded(a_side, b_side, threshold, r)
+    }
+}
+
+// The command in ir.
+pub fn command(block: Block) -> i64
+    requires { ⌜ Sound block ⌝ }
+    ensures { λ r. ⌜ r ≡ commandOf block ⌝ }
+{
+    clamp_to_stroke(banded_by(
+        setting(block, DEAD_BAND_TYPE),
+        setting(block, A_SIDE),
+        setting(block, B_SIDE),
+        setting(block, THRESHOLD),
+        whole_of(block.position),
+    ))
+}
+
+pub fn lies_in(low: i64, high: i64, x: i64) -> bool
+    ensures { λ r. ⌜ r ≡ liesIn low high x ⌝ }
+{
+    low <= x && x <= high
+}
+
+// Each of the settings is in its row's range, and the limits are not crossed.
+pub fn sound_settings(settings: [i64; 17]) -> bool
+    ensures { λ r. ⌜ r ≡ soundSettings settings ⌝ }
+{
+    let mut place = 0;
+    while place < SETTINGS {
+        let row = objects::row_at(place);
+        if !lies_in(row.low, row.high, settings[place]) {
+            return false;
+        }
+        place += 1;
+    }
+    settings[LOWER_LIMIT] <= settings[UPPER_LIMIT]
+}
+
+pub fn is_sound(block: Block) -> bool
+    ensures { λ r. ⌜ r ≡ soundBlock block ⌝ }
+{
+    let settings = block.settings;
+    let row = objects::row_at(SET_POINT);
+    sound_settings(settings)
+        && lies_in(row.low, row.high, block.setpoint)
+        && lies_in(-FULL_STROKE, FULL_STROKE, block.position)
+}
+
+// Every setting as the table has it fresh.
+pub fn fresh() -> Block
+    ensures { λ r. ⌜ r ≡ freshBlock ⌝ }
+{
+    let mut settings = [0i64; 17];
+    let mut place = 0;
+    while place < SETTINGS {
+        let fresh = objects::row_at(place).fresh;
+        settings[place] = fresh;
+        place += 1;
+    }
+    Block {
+        setpoint: objects::row_at(SET_POINT).fresh,
+        position: 0,
+        settings: settings,
+    }
+}
+
+fn ramp_of(block: Block) -> Ramp
+    ensures { λ r. ⌜ r ≡ rampOf block ⌝ }
+{
+    let acceleration = Times {
+        one: setting(block, ACCELERATION),
+        positive: setting(block, ACCELERATION_POSITIVE),
+        negative: setting(block, ACCELERATION_NEGATIVE),
+    };
+    let deceleration = Times {
+        one: setting(block, DECELERATION),
+        positive: setting(block, DECELERATION_POSITIVE),
+        negative: setting(block, DECELERATION_NEGATIVE),
+    };
+    Ramp {
+        kind: setting(block, RAMP_TYPE),
+        acceleration: acceleration,
+        deceleration: deceleration,
+    }
+}
+
+// The block at another position.
+pub fn at_position(block: Block, position: i64) -> Block
+    ensures { λ r. ⌜ r ≡ atPosition position block ⌝ }
+{
+    let mut moved = block;
+    moved.position = position;
+    moved
+}
+
+// Whether the block has met its target.
+pub fn at_target(block: Block, active: bool) -> bool
+    requires { ⌜ Sound block ⌝ }
+    ensures { λ r. ⌜ r ≡ (block .position =? targetPosition active block) ⌝ }
+{
+    block.position == target_position(block, active)
+}
+
+// One tick.
+pub fn tick(block: Block, active: bool) -> Block
+    requires { ⌜ Sound block ⌝ }
+    ensures { λ r. ⌜ r ≡ tickBlock active block ⌝ }
+{
+    at_position(
+        block,
+        ramp::tick(
+            ramp_of(block),
+            target_position(block, active),
+            block.position,
+        ),
+    )
+}
+
+// n ticks at once.
+pub fn jump(block: Block, active: bool, n: u32) -> Block
+    requires { ⌜ Sound block ⌝ }
+    ensures { λ r. ⌜ r ≡ jumpBlock active n block ⌝ }
+{
+    at_position(
+        block,
+        ramp::jump(
+            ramp_of(block),
+            target_position(block, active),
+            block.position,
+            n,
+        ),
+    )
+}
+
+// The ticks until the target is met.
+pub fn ticks_to_go(block: Block, active: bool) -> u32
+    requires { ⌜ Sound block ⌝ }
+    ensures { λ r. ⌜ r ≡ ticksToGoOf active block ⌝ }
+{
+    ramp::ticks_to_go(
+        ramp_of(block),
+        target_position(block, active),
+        block.position,
+    )
+}
