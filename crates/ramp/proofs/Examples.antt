@@ -1,10 +1,15 @@
--- Document 01's worked examples of the ramp, and the longest way, each by computation.
+-- Document 01's worked examples of the ramp, each by computation, and a way that takes as many ticks as any.
 use mathlib.Core.List.{List, [], _∷_, map}
 use mathlib.Core.Path.{_≡_, refl}
 use Prim.Native.Nat.{ℕ, _*_}
+use native.Mathlib.Omega.{arith}
+use lib.Dec.{T}
 use lib.IntN.{ℤ, pos, _*ℤ_}
+use lib.Signed.{leZ, leZ-yes}
 use Rattle.integers.specs.Words.{minus}
+use Rattle.integers.specs.Range.{Within}
 use Rattle.ramp.specs.Ramp.{sideOf, awayTime, backTime, stepOf, opposite, decelerates, distance, toward, moved, stop, stride, tickOf, ticked, legTicks, ticksToGo, positionAfter}
+use Rattle.ramp.specs.Demand.{Longest}
 use Rattle.ramp.specs.declared.Times.{Times}
 use Rattle.ramp.specs.declared.Ramp.{Ramp}
 
@@ -33,8 +38,6 @@ pub record RampExamples : Type 0 where
   pub ticksOutAndIn : ticksToGo outAndIn (minus 3276800) (pos 6553600) ≡ 8
   pub positionsOutAndIn : map (ticked outAndIn (minus 3276800) (pos 6553600)) (1 ∷ 2 ∷ 3 ∷ 4 ∷ 5 ∷ 6 ∷ 7 ∷ 8 ∷ []) ≡ ir (pos 68 ∷ pos 36 ∷ pos 4 ∷ pos 0 ∷ minus 16 ∷ minus 32 ∷ minus 48 ∷ minus 50 ∷ [])
   pub formulaOutAndIn : map (positionAfter outAndIn (minus 3276800) (pos 6553600)) (1 ∷ 2 ∷ 3 ∷ 4 ∷ 5 ∷ 6 ∷ 7 ∷ 8 ∷ 4294967295 ∷ []) ≡ ir (pos 68 ∷ pos 36 ∷ pos 4 ∷ pos 0 ∷ minus 16 ∷ minus 32 ∷ minus 48 ∷ minus 50 ∷ minus 50 ∷ [])
-  -- the bound on the ticks to go is attained: from end to end at the longest time
-  pub longest : ticksToGo (ramp 1 3600000 0) (pos 1073741824) (minus 1073741824) ≡ 7206322
 
 pub examples : RampExamples
 unfolding sideOf awayTime backTime stepOf opposite decelerates distance toward moved stop stride tickOf ticked legTicks ticksToGo positionAfter
@@ -47,5 +50,27 @@ examples =
       ticksOutAndIn = refl;
       positionsOutAndIn = refl;
       formulaOutAndIn = refl;
-      longest = refl;
     }
+
+-- the bound on the ticks to go is attained: from end to end at the longest time
+pub longest : Longest
+unfolding sideOf awayTime backTime stepOf opposite decelerates distance stop stride legTicks ticksToGo
+longest =
+    record {
+      ramp = ramp 1 3600000 0;
+      target = pos 1073741824;
+      position = minus 1073741824;
+      way = record {
+        ramp = record {
+          kind = lies tt tt;
+          acceleration = record { one = lies tt tt; positive = lies tt tt; negative = lies tt tt };
+          deceleration = record { one = lies tt tt; positive = lies tt tt; negative = lies tt tt };
+        };
+        target = record { inside = omega arith };
+        position = record { inside = omega arith };
+      };
+      ticks = refl;
+    }
+  where
+    lies : {low high z : ℤ} → T (leZ low z) → T (leZ z high) → Within low high z
+    lies s t = record { from = leZ-yes s; to = leZ-yes t }
