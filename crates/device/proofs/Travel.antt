@@ -1,0 +1,88 @@
+-- Demand 3 of a sound device, in all four states: not driven it rests at 0, and driven it is demand 3 of its block.
+use mathlib.Core.Bool.{Bool, true, false, _||_}
+use mathlib.Core.Logic.{_≢_}
+use mathlib.Core.Path.{_≡_, refl, sym, ap, _∙_}
+use Prim.Native.Nat.{ℕ, zero, suc, _+_, _≤_, _<_}
+use native.Mathlib.Omega.{arith}
+use lib.IntN.{ℤ, pos}
+use Rattle.integers.specs.Words.{_=?_}
+use Rattle.integers.proofs.Cases.{by-cases, clash}
+use Rattle.integers.proofs.Machine.{=?-yes}
+use Rattle.block.specs.Target.{targetPosition}
+use Rattle.block.specs.Travel.{tickBlock, tickBlockTimes, jumpBlock, ticksToGoOf}
+use Rattle.block.proofs.Travel.{block-demand3, ticks-are-a-jump, jumps-add, target-stays}
+use Rattle.device.specs.States.{driven}
+use Rattle.device.specs.Events.{withBlock, isActive, tickDevice, tickDeviceTimes, jumpDevice}
+use Rattle.device.specs.Queries.{deviceTicksToGo}
+use Rattle.device.specs.Sound.{restsAt, Sound}
+use Rattle.device.specs.Demand.{deviceTargetPosition, devicePositionAfter, Demand3}
+use Rattle.device.specs.declared.Device.{Device}
+use Rattle.device.proofs.Laws.{parts, sound-block}
+
+-- ---- at rest
+
+module _ (d : Device) (k : driven (d .state) ≡ false) where
+  tick-rests : tickDevice d ≡ d
+  unfolding tickDevice
+  tick-rests = rw k
+
+  jump-rests : (n : ℕ) → jumpDevice n d ≡ d
+  unfolding jumpDevice
+  jump-rests n = rw k
+
+  ticks-rest : (n : ℕ) → tickDeviceTimes n d ≡ d
+  unfolding tickDeviceTimes
+  ticks-rest zero = refl
+  ticks-rest (suc n) = ap tickDevice (ticks-rest n) ∙ tick-rests
+
+rests-at-zero : {d : Device} → Sound d → driven (d .state) ≡ false → d .block .position ≡ pos 0
+unfolding restsAt
+rests-at-zero {d} s k = =?-yes (d .block .position) (pos 0) (rw k at (parts s .rests))
+
+-- ---- driven
+
+module _ (d : Device) (k : driven (d .state) ≡ true) where
+  pub jump-driven : (n : ℕ) → jumpDevice n d ≡ withBlock (jumpBlock (isActive d) n (d .block)) d
+  unfolding jumpDevice
+  jump-driven n = rw k
+
+  ticks-driven : (n : ℕ) → tickDeviceTimes n d ≡ withBlock (tickBlockTimes (isActive d) n (d .block)) d
+  unfolding tickDeviceTimes tickBlockTimes tickDevice
+  ticks-driven zero = refl
+  ticks-driven (suc n) = ap tickDevice (ticks-driven n) ∙ rw k
+
+-- ---- all states
+
+module _ {d : Device} (s : Sound d) where
+  ticks : (n : ℕ) → tickDeviceTimes n d ≡ jumpDevice n d
+  ticks n =
+      by-cases (driven (d .state))
+      (λ k. ticks-driven d k n ∙ ap (λ b. withBlock b d) (ticks-are-a-jump (sound-block s) (isActive d) n) ∙ sym (jump-driven d k n))
+      (λ k. ticks-rest d k n ∙ sym (jump-rests d k n))
+
+  formula : (n : ℕ) → tickDeviceTimes n d .block .position ≡ devicePositionAfter n d
+  unfolding devicePositionAfter jumpBlock
+  formula n =
+      ap (λ e. e .block .position) (ticks n)
+      ∙ by-cases (driven (d .state))
+      (λ k. ap (λ e. e .block .position) (jump-driven d k n) ∙ rw k)
+      (λ k. ap (λ e. e .block .position) (jump-rests d k n) ∙ rw k (rests-at-zero s k))
+
+  jumps : (m n : ℕ) → jumpDevice n (jumpDevice m d) ≡ jumpDevice (m + n) d
+  jumps m n =
+      by-cases (driven (d .state))
+      (λ k. ap (jumpDevice n) (jump-driven d k m) ∙ jump-driven (withBlock (jumpBlock (isActive d) m (d .block)) d) k n ∙ ap (λ b. withBlock b d) (jumps-add (sound-block s) (isActive d) m n) ∙ sym (jump-driven d k (m + n)))
+      (λ k. ap (jumpDevice n) (jump-rests d k m) ∙ jump-rests d k n ∙ sym (jump-rests d k (m + n)))
+
+  pub demand3 : Demand3 d
+  unfolding devicePositionAfter deviceTicksToGo ticksToGoOf
+  demand3 =
+      let of-block = block-demand3 (sound-block s) (isActive d) in
+      record {
+        ticks = ticks;
+        formula = formula;
+        jumps = jumps;
+        kept = λ k n h. rw k (of-block .kept n (rw k at h));
+        first = λ k n h. rw k (of-block .first n (rw k at h));
+        latest = by-cases (driven (d .state)) (λ k. rw k (of-block .latest)) (λ k. rw k (omega arith));
+      }

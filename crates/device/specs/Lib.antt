@@ -1,0 +1,5 @@
+pub mod States
+pub mod Events
+pub mod Queries
+pub mod Sound
+pub mod Demand
