@@ -6,6 +6,8 @@ use Prim.Native.Nat.{ℕ, suc, _+_, _-_, _≤_, _<_}
 use native.Mathlib.Omega.{arith}
 use borrow.Author.Tests.{eqb-true, ne-eqb}
 use Rattle.integers.specs.Words.{each, _is_}
+use lib.ListN.{length}
+use Rattle.integers.proofs.Cases.{by-cases}
 use Rattle.integers.proofs.Each.{each-at}
 use Rattle.objects.specs.Table.{objects, columnsAt, rowAt}
 use Rattle.objects.specs.Lookup.{placeFrom, placeOf}
@@ -46,3 +48,19 @@ absent-from place (row ∷ rows) index h = rw (ne-eqb (row .0) index (h .0)) (ab
 pub no-other-index : (index : ℕ) → Absent objects index → placeOf index ≡ Nowhere
 unfolding placeOf
 no-other-index index h = absent-from 0 objects index h
+
+-- a place that was found is within the table
+below-from : (place : ℕ) (rows : List Columns) (index k : ℕ) → placeFrom place rows index ≡ At k → k < place + length rows
+unfolding placeFrom
+below-from place [] index k e = absurd (nowhere e)
+  where
+    nowhere : Nowhere ≡ At k → ⊥
+    nowhere e = let z : _≡_ {A = ℕ} 0 1 = cc in omega arith
+below-from place (row ∷ rows) index k e =
+    by-cases (row .0 is index)
+    (λ f. let z : At place ≡ At k = (rw f at e) in let s : place ≡ k = cc in omega arith)
+    (λ f. omega (arith, below-from (suc place) rows index k (rw f at e)))
+
+pub found-below : (index k : ℕ) → placeOf index ≡ At k → k < 22
+unfolding placeOf objects
+found-below index k e = below-from 0 objects index k e
