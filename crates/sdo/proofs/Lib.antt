@@ -1,0 +1,5 @@
+pub mod Laws
+pub mod Machine
+pub mod Writes
+pub mod Written
+pub mod Promises

@@ -1,0 +1,19 @@
+-- The arms are the definition's branches.
+use borrow.Author.Tests.{ne-eqb}
+use Rattle.sdo.specs.Frames.{asksOf}
+use Rattle.sdo.proofs.asks_of.Statement.{statement}
+use Rattle.sdo.proofs.asks_of.Tie as tie
+
+pub asks-of-spec : {M : Type 1} → statement M
+unfolding asksOf
+asks-of-spec =
+    tie.close
+    (tie.spec
+    (λ c. rw (c .match .keys1))
+    (λ c. rw (c .match .keys2))
+    (λ c. rw (c .match .keys3))
+    (λ c. rw (c .match .keys4))
+    (λ c. rw (c .match .keys5))
+    (λ c.
+    let none = c .match .rest in
+    rw (ne-eqb _ _ (none .0 .0 .0 .0 .1), ne-eqb _ _ (none .0 .0 .0 .1), ne-eqb _ _ (none .0 .0 .1), ne-eqb _ _ (none .0 .1), ne-eqb _ _ (none .1))))

@@ -1,0 +1,72 @@
+-- Document 01, "SDO": the bytes of a request and of its reply.
+use mathlib.Core.Bool.{Bool, true, false}
+use mathlib.Core.List.{List, [], _∷_, _++_}
+use Prim.Native.Nat.{ℕ, _+_, _%_, _/_}
+use lib.ListN.{getD, drop}
+use Rattle.integers.specs.Words.{if_then_else_, _is_}
+use Rattle.coding.specs.Bytes.{twoOf, fourOf, fourBytes}
+use Rattle.sdo.specs.declared.Request.{Request}
+use Rattle.sdo.specs.declared.Asks.{Asks}
+use Rattle.sdo.specs.declared.Asks.the-variants.{Reads, Writes, Unknown}
+use Rattle.sdo.specs.declared.Outcome.{Outcome}
+use Rattle.sdo.specs.declared.Outcome.the-variants.{Read, Written, Abort, Refused}
+
+-- the byte at a place of a request
+abbrev pub byte : List ℕ → ℕ → ℕ
+byte bytes place = getD bytes place 0
+
+-- command, index low first, sub-index, four data bytes low first
+abbrev pub requestOf : List ℕ → Request
+requestOf bytes =
+    record {
+      command = byte bytes 0;
+      sub = byte bytes 3;
+      index = twoOf (byte bytes 1) (byte bytes 2);
+      number = fourOf (byte bytes 4) (byte bytes 5) (byte bytes 6) (byte bytes 7);
+    }
+
+-- what a command byte asks: 40h reads; 2Fh, 2Bh, 27h, 23h write 1, 2, 3, 4 bytes
+unfoldable pub asksOf : ℕ → Asks
+asksOf command =
+    if command is 0x40 then Reads
+    else if command is 0x2F then Writes 1
+    else if command is 0x2B then Writes 2
+    else if command is 0x27 then Writes 3
+    else if command is 0x23 then Writes 4
+    else Unknown
+
+-- a reply: command, index low first, sub-index, four bytes of a number low first
+abbrev pub frameOf : ℕ → Request → ℕ → List ℕ
+frameOf command q number = command ∷ q .index % 256 ∷ q .index / 256 ∷ q .sub ∷ fourBytes number
+
+-- the command byte of a read reply: 4Fh, 4Bh or 43h for 1, 2 or 4 bytes
+unfoldable pub readReply : ℕ → ℕ
+readReply size =
+    if size is 1 then 0x4F
+    else if size is 2 then 0x4B
+    else 0x43
+
+-- the eight bytes of a reply; a refusal has none
+abbrev pub replyOf : Outcome → Request → List ℕ
+replyOf (Read size number) q = frameOf (readReply size) q number
+replyOf Written q = frameOf 0x60 q 0
+replyOf (Abort code) q = frameOf 0x80 q code
+replyOf (Refused number) q = []
+
+-- a reply is due to all but a refusal
+abbrev pub isDue : Outcome → Bool
+isDue (Read size number) = true
+isDue Written = true
+isDue (Abort code) = true
+isDue (Refused number) = false
+
+-- the room after the reply: it goes to the first eight bytes and later bytes stay; a refusal writes nothing
+unfoldable pub repliedIn : Outcome → Request → List ℕ → List ℕ
+repliedIn outcome q room = if isDue outcome then replyOf outcome q ++ drop 8 room else room
+
+-- the number handed back: 0 where it is done, an abort reply included
+abbrev pub numberHandedBack : Outcome → ℕ
+numberHandedBack (Read size number) = 0
+numberHandedBack Written = 0
+numberHandedBack (Abort code) = 0
+numberHandedBack (Refused number) = number

@@ -1,0 +1,5 @@
+pub mod Frames
+pub mod Entries
+pub mod Aborts
+pub mod Asked
+pub mod Serve
