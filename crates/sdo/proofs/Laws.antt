@@ -109,6 +109,9 @@ passed true code rest e = absurd (never e)
     never e = let z : _≡_ {A = ℕ} 0 1 = cc in omega arith
 passed false code rest e = (refl, e)
 
+between : {low high value : ℤ} → ltZ high value ≡ false → ltZ value low ≡ false → Within low high value
+between {low} {high} {value} h l = omega (arith, ints)
+
 pub record Accept (d : Device) (place size : ℕ) (value : ℤ) : Type 0 where
   pub writable : rowAt place .writable ≡ true
   pub sized : rowAt place .size ≡ size
@@ -125,12 +128,10 @@ accepted d place size value e =
     let f = passed _ _ _ (c .1) in
     let g = passed _ _ _ (f .1) in
     let h = passed _ _ _ (g .1) in
-    let high : ltZ (rowAt place .high) value ≡ false = c .0 in
-    let low : ltZ value (rowAt place .low) ≡ false = f .0 in
     record {
       writable = not-false _ (a .0);
       sized = eqb-true (rowAt place .size) size (not-false _ (b .0));
-      range = omega (arith, ints);
+      range = between (c .0) (f .0);
       uncrossed = g .0;
       unlocked = h .0;
     }

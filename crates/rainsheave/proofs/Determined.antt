@@ -1,0 +1,46 @@
+-- Every call's result is determined: two results that meet its contract, on the same arguments, are equal, and so are the bytes that they leave.
+use mathlib.Core.List.{List}
+use mathlib.Core.Path.{_≡_, sym, _∙_}
+use Prim.Native.Nat.{ℕ}
+use Rattle.device.specs.declared.Device.{Device}
+use Rattle.sdo.specs.declared.Answer.{Answer}
+use Rattle.rainsheave.specs.declared.Change.{Change}
+use Rattle.rainsheave.specs.declared.Reading.{Reading}
+use Rattle.rainsheave.specs.Fixed.{FreshIs, SdoIs, ControlIs, FaultIs, TickIs, JumpIs, StateIs, StatusIs, ErrorIs, PositionIs, TargetIs, CommandIs, TicksToGoIs}
+
+-- two things that are equal to a third
+one {ℓ} : {A : Type ℓ} {x y z : A} → x ≡ z → y ≡ z → x ≡ y
+one p q = p ∙ sym q
+
+pub record Determined : Type 0 where
+  pub fresh : {r s : Device} → FreshIs r → FreshIs s → r ≡ s
+  pub sdo : {d : Device} {request before after after′ : List ℕ} {r s : Answer} → SdoIs d request before after r → SdoIs d request before after′ s → (r ≡ s) × (after ≡ after′)
+  pub control : {d : Device} {word : ℕ} {r s : Change} → ControlIs d word r → ControlIs d word s → r ≡ s
+  pub fault : {d : Device} {code : ℕ} {r s : Change} → FaultIs d code r → FaultIs d code s → r ≡ s
+  pub tick : {d : Device} {r s : Change} → TickIs d r → TickIs d s → r ≡ s
+  pub jump : {d : Device} {n : ℕ} {r s : Change} → JumpIs d n r → JumpIs d n s → r ≡ s
+  pub state : {d : Device} {r s : Reading} → StateIs d r → StateIs d s → r ≡ s
+  pub status : {d : Device} {r s : Reading} → StatusIs d r → StatusIs d s → r ≡ s
+  pub error : {d : Device} {r s : Reading} → ErrorIs d r → ErrorIs d s → r ≡ s
+  pub position : {d : Device} {r s : Reading} → PositionIs d r → PositionIs d s → r ≡ s
+  pub target : {d : Device} {r s : Reading} → TargetIs d r → TargetIs d s → r ≡ s
+  pub command : {d : Device} {r s : Reading} → CommandIs d r → CommandIs d s → r ≡ s
+  pub ticks-to-go : {d : Device} {r s : Reading} → TicksToGoIs d r → TicksToGoIs d s → r ≡ s
+
+pub determined : Determined
+determined =
+    record {
+      fresh = λ p q. one (p .result) (q .result);
+      sdo = λ p q. (one (p .result) (q .result), one (p .bytes) (q .bytes));
+      control = λ p q. one (p .result) (q .result);
+      fault = λ p q. one (p .result) (q .result);
+      tick = λ p q. one (p .result) (q .result);
+      jump = λ p q. one (p .result) (q .result);
+      state = λ p q. one (p .result) (q .result);
+      status = λ p q. one (p .result) (q .result);
+      error = λ p q. one (p .result) (q .result);
+      position = λ p q. one (p .result) (q .result);
+      target = λ p q. one (p .result) (q .result);
+      command = λ p q. one (p .result) (q .result);
+      ticks-to-go = λ p q. one (p .result) (q .result);
+    }

@@ -1,0 +1,109 @@
+-- What the calls promise together: a refusal leaves everything as it was, a sound device stays sound, and `control` is an SDO write of 6040h.
+use mathlib.Core.Bool.{Bool, true, false, not, cond}
+use mathlib.Core.List.{List}
+use mathlib.Core.Logic.{_≢_}
+use mathlib.Core.Path.{_≡_, refl, sym, ap, _∙_}
+use Prim.Native.Nat.{ℕ, _<_, _%_}
+use native.Mathlib.Nat.{mod-eq-of-lt}
+use native.Mathlib.Omega.{arith}
+use borrow.Author.Tests.{eqb-false}
+use lib.Dec.{eqb, ltb}
+use lib.IntN.{ℤ, pos, natAbs}
+use lib.ListN.{length}
+use Rattle.integers.proofs.Linear.{ints}
+use Rattle.integers.proofs.Cases.{by-cases, by-test, clash}
+use Rattle.integers.specs.Words.{each}
+use Rattle.objects.specs.Table.{objects, sizeOf, rowAt}
+use Rattle.objects.specs.Lookup.{placeFrom, placeOf, entryAt}
+use Rattle.coding.specs.Coding.{span, inSpan, valueOf}
+use Rattle.device.specs.Events.{controlled}
+use Rattle.device.specs.Sound.{soundDevice, Sound}
+use Rattle.device.specs.declared.Device.{Device}
+use Rattle.device.proofs.Laws as Devices
+use Rattle.sdo.specs.Frames.{asksOf, isDue, repliedIn, requestOf, byte}
+use Rattle.sdo.specs.Entries.{writtenTo, crosses}
+use Rattle.sdo.specs.Aborts.{findEntry, verdictOn}
+use Rattle.sdo.specs.Serve.{answer, judged, writeOf, served}
+use Rattle.sdo.specs.declared.Request.{Request}
+use Rattle.sdo.specs.declared.Outcome.{Outcome}
+use Rattle.sdo.specs.declared.Outcome.the-variants.{Read, Written, Abort, Refused}
+use Rattle.sdo.specs.declared.Answer.{Answer}
+use Rattle.sdo.specs.declared.Verdict.the-variants.{Accepted}
+use Rattle.sdo.proofs.Promises.{not-written-unchanged, served-sound, is-accepted}
+use Rattle.rainsheave.specs.Calls.{isClientAbort, sdoAnswer, sdoRoom, numberOfReport, change, changed, controlAnswer, faultAnswer, tickAnswer, jumpAnswer}
+use Rattle.rainsheave.specs.declared.Report.{Report}
+use Rattle.rainsheave.specs.declared.Report.the-variants.{Done}
+use Rattle.rainsheave.specs.declared.Change.{Change}
+
+-- ---- a refusal leaves everything as it was
+
+-- whatever is answered but a write done, the device is the given one
+pub sdo-unchanged : (d : Device) (request : List ℕ) (room : ℕ) → sdoAnswer d request room .outcome ≢ Written → sdoAnswer d request room .device ≡ d
+unfolding sdoAnswer
+sdo-unchanged d request room =
+    by-test Kept (not (soundDevice d)) (λ e h. refl)
+    (λ e. by-test Kept (not (eqb (length request) 8)) (λ f h. refl)
+    (λ f. by-test Kept (ltb room 8) (λ g h. refl)
+    (λ g. by-test Kept (isClientAbort (byte request 0)) (λ i h. refl) (λ i. not-written-unchanged d (requestOf request)))))
+  where
+    Kept : Answer → Type 0
+    Kept a = a .outcome ≢ Written → a .device ≡ d
+
+-- and a refusal writes nothing
+pub refusal-writes-nothing : (d : Device) (request before : List ℕ) (number : ℕ) → sdoAnswer d request (length before) .outcome ≡ Refused number → sdoRoom d request before ≡ before
+unfolding sdoRoom repliedIn
+refusal-writes-nothing d request before number e = rw e
+
+-- a call that changes the device does so where its number is 0 alone
+pub refused-unchanged : (d : Device) (c : Change) → (numberOfReport (c .report) ≢ 0 → c .device ≡ d) → numberOfReport (changed d c .report) ≢ 0 → changed d c .device ≡ d
+refused-unchanged d c = by-cases (soundDevice d) (λ e f. rw e f) (λ e f. rw e (λ h. refl))
+
+-- ---- a sound device stays sound
+
+pub sdo-sound : {d : Device} → Sound d → (request : List ℕ) (room : ℕ) → Sound (sdoAnswer d request room .device)
+unfolding sdoAnswer
+sdo-sound {d} s request room =
+    by-test Kept (not (soundDevice d)) (λ e. s)
+    (λ e. by-test Kept (not (eqb (length request) 8)) (λ f. s)
+    (λ f. by-test Kept (ltb room 8) (λ g. s)
+    (λ g. by-test Kept (isClientAbort (byte request 0)) (λ i. s) (λ i. served-sound s (requestOf request)))))
+  where
+    Kept : Answer → Type 0
+    Kept a = Sound (a .device)
+
+changed-sound : {d : Device} (c : Change) → Sound d → Sound (c .device) → Sound (changed d c .device)
+changed-sound c s h = rw (s .sound) h
+
+pub control-sound : {d : Device} → Sound d → (word : ℕ) → Sound (controlAnswer d word .device)
+unfolding controlAnswer
+control-sound s word = changed-sound _ s (Devices.controlled-sound s word)
+
+pub fault-sound : {d : Device} → Sound d → (code : ℕ) → Sound (faultAnswer d code .device)
+unfolding faultAnswer
+fault-sound {d} s code = changed-sound _ s (by-test (λ (c : Change). Sound (c .device)) (eqb code 0) (λ e. s) (λ e. Devices.faulted-sound s code (eqb-false code 0 e)))
+
+pub tick-sound : {d : Device} → Sound d → Sound (tickAnswer d .device)
+unfolding tickAnswer
+tick-sound s = changed-sound _ s (Devices.tick-sound s)
+
+pub jump-sound : {d : Device} → Sound d → (n : ℕ) → Sound (jumpAnswer d n .device)
+unfolding jumpAnswer
+jump-sound s n = changed-sound _ s (Devices.jump-sound s n)
+
+-- ---- `control` is an accepted write of 6040h
+
+-- the request that writes a control word
+abbrev pub writing : ℕ → Request
+writing word = record { command = 0x2B; sub = 0; index = 0x6040; number = word }
+
+-- a control word may be written in every state
+word-accepted : (d : Device) (word : ℕ) → word < 65536 → verdictOn d 18 2 (pos word) ≡ Accepted
+unfolding objects sizeOf crosses
+word-accepted d word h =
+    is-accepted d 18 2 (pos word) (record { writable = refl; sized = refl; range = omega (arith, ints); uncrossed = refl; unlocked = refl })
+
+pub control-is-a-write : (d : Device) (word : ℕ) → word < 65536 → served d (writing word) ≡ answer Written (controlled word d)
+unfolding served asksOf findEntry placeOf placeFrom entryAt objects writeOf sizeOf valueOf span inSpan writtenTo
+control-is-a-write d word h =
+    let low : word % 65536 ≡ word = omega arith in
+    rw (low, word-accepted d word h)

@@ -1,0 +1,17 @@
+-- The code and the definition make the same test.
+use borrow.Author.Needs.{needs}
+use Rattle.rainsheave.proofs.Sound.{sound, unsound, sound-query, unsound-query}
+use Rattle.rainsheave.proofs.position.Statement.{statement}
+use Rattle.rainsheave.proofs.position.Tie as tie
+
+pub position-spec : {M : Type 1} → statement M
+position-spec =
+    tie.close
+    (tie.spec
+    (λ c κs. search needs)
+    (λ c κs. search needs)
+    (λ c κs. search needs)
+    (λ c.
+    let t = c .before .before .before in
+    record { result = rw (c .told .ensures, sound-query (sound (t .before .is-sound .ensures) (t .if1 .taken))) (search needs) })
+    (λ c. record { result = rw (unsound-query (unsound (c .before .before .is-sound .ensures) (c .before .if1 .left))) (c .not-told .ensures) }))

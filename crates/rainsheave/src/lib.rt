@@ -1,0 +1,244 @@
+// Rainsheave, the public library: every call, for every frame, event and state that can be handed in. No call has a `requires`:
+// what is not allowed is refused by number, the device comes back as it came, and a refusal writes nothing.
+ghost use mathlib.Core.Path.{_≡_};
+ghost use lib.IntN.{pos};
+ghost use Rattle.device.specs.Sound.{soundDevice};
+ghost use Rattle.sdo.specs.Serve.{answer};
+ghost use Rattle.rainsheave.specs.Calls.{change};
+ghost use Rattle.rainsheave.specs.Fixed.{
+  FreshIs,
+  SdoIs,
+  ControlIs,
+  FaultIs,
+  TickIs,
+  JumpIs,
+  StateIs,
+  StatusIs,
+  ErrorIs,
+  PositionIs,
+  TargetIs,
+  CommandIs,
+  TicksToGoIs,
+};
+use device::Device;
+use sdo::Answer;
+use sdo::Outcome;
+
+// The numbers handed back by these calls; 0 is done.
+const UNSOUND: u8 = 1;
+
+const WRONG_LENGTH: u8 = 2;
+
+const NO_ROOM: u8 = 3;
+
+const NO_REPLY_DUE: u8 = 4;
+
+const NO_FAULT: u8 = 5;
+
+// What becomes of a call that changes the device.
+pub enum Report {
+    Done,
+    Refused(u8),
+}
+
+// A report beside the device as it is then.
+pub struct Change {
+    pub device: Device,
+    pub report: Report,
+}
+
+// The answer of a query: the number handed back, and the value, which is 0 where the number is not.
+pub struct Reading {
+    pub value: i64,
+    pub number: u8,
+}
+
+fn refused_request(device: Device, number: u8) -> Answer
+    ensures { λ r. ⌜ r ≡ answer (Outcome.Refused number) device ⌝ }
+{
+    let outcome = Outcome::Refused(number);
+    Answer { device, outcome }
+}
+
+fn refused(device: Device, number: u8) -> Change
+    ensures { λ r. ⌜ r ≡ change (Report.Refused number) device ⌝ }
+{
+    let report = Report::Refused(number);
+    Change { device, report }
+}
+
+fn done(device: Device) -> Change
+    ensures { λ r. ⌜ r ≡ change Report.Done device ⌝ }
+{
+    let report = Report::Done;
+    Change { device, report }
+}
+
+fn told(value: i64) -> Reading
+    ensures { λ r. ⌜ r ≡ record { value = value; number = 0 } ⌝ }
+{
+    Reading { value, number: 0 }
+}
+
+fn not_told() -> Reading
+    ensures { λ r. ⌜ r ≡ record { value = pos 0; number = 1 } ⌝ }
+{
+    Reading {
+        value: 0,
+        number: UNSOUND,
+    }
+}
+
+// A device as it is when it is switched on: DISABLED, with every object fresh.
+pub fn fresh() -> Device
+    ensures { λ r. ⌜ FreshIs r ⌝ }
+{
+    device::fresh()
+}
+
+// An SDO request. The reply goes to the first eight bytes of the room.
+pub fn sdo(device: Device, request: &[u8], reply: &mut [u8]) -> Answer
+    ensures { λ r. ⌜ SdoIs device (now (request .entry)) (now (reply .entry)) (now (reply .exit)) r ⌝ }
+{
+    if !device::is_sound(device) {
+        return refused_request(device, UNSOUND);
+    }
+    if request.len() != 8 {
+        return refused_request(device, WRONG_LENGTH);
+    }
+    if reply.len() < 8 {
+        return refused_request(device, NO_ROOM);
+    }
+    let asked = sdo::request_of(request);
+    if asked.command / 32 == 4 {
+        return refused_request(device, NO_REPLY_DUE);
+    }
+    let served = sdo::serve(device, asked);
+    let outcome = served.outcome;
+    sdo::reply(outcome, asked, reply);
+    served
+}
+
+// A control word, as an accepted SDO write of 6040h.
+pub fn control(device: Device, word: u16) -> Change
+    ensures { λ r. ⌜ ControlIs device word r ⌝ }
+{
+    if device::is_sound(device) {
+        done(device::control(device, word))
+    } else {
+        refused(device, UNSOUND)
+    }
+}
+
+// A fault report.
+pub fn fault(device: Device, code: u16) -> Change
+    ensures { λ r. ⌜ FaultIs device code r ⌝ }
+{
+    if !device::is_sound(device) {
+        return refused(device, UNSOUND);
+    }
+    if code == 0 {
+        return refused(device, NO_FAULT);
+    }
+    done(device::fault(device, code))
+}
+
+// One tick of 1 ms.
+pub fn tick(device: Device) -> Change
+    ensures { λ r. ⌜ TickIs device r ⌝ }
+{
+    if device::is_sound(device) {
+        done(device::tick(device))
+    } else {
+        refused(device, UNSOUND)
+    }
+}
+
+// n ticks at once.
+pub fn jump(device: Device, n: u32) -> Change
+    ensures { λ r. ⌜ JumpIs device n r ⌝ }
+{
+    if device::is_sound(device) {
+        done(device::jump(device, n))
+    } else {
+        refused(device, UNSOUND)
+    }
+}
+
+// The state: 0 DISABLED, 1 HOLD, 2 ACTIVE, 3 FAULT.
+pub fn state(device: Device) -> Reading
+    ensures { λ r. ⌜ StateIs device r ⌝ }
+{
+    if device::is_sound(device) {
+        told(device.state as i64)
+    } else {
+        not_told()
+    }
+}
+
+// The status word.
+pub fn status(device: Device) -> Reading
+    ensures { λ r. ⌜ StatusIs device r ⌝ }
+{
+    if device::is_sound(device) {
+        told(device::status(device) as i64)
+    } else {
+        not_told()
+    }
+}
+
+// The error code: 0 but in FAULT.
+pub fn error(device: Device) -> Reading
+    ensures { λ r. ⌜ ErrorIs device r ⌝ }
+{
+    if device::is_sound(device) {
+        told(device.error as i64)
+    } else {
+        not_told()
+    }
+}
+
+// The position, in 1/65,536 ir.
+pub fn position(device: Device) -> Reading
+    ensures { λ r. ⌜ PositionIs device r ⌝ }
+{
+    if device::is_sound(device) {
+        let block = device.block;
+        told(block.position)
+    } else {
+        not_told()
+    }
+}
+
+// The target, in ir.
+pub fn target(device: Device) -> Reading
+    ensures { λ r. ⌜ TargetIs device r ⌝ }
+{
+    if device::is_sound(device) {
+        told(device::target(device))
+    } else {
+        not_told()
+    }
+}
+
+// The command, in ir.
+pub fn command(device: Device) -> Reading
+    ensures { λ r. ⌜ CommandIs device r ⌝ }
+{
+    if device::is_sound(device) {
+        told(device::command(device))
+    } else {
+        not_told()
+    }
+}
+
+// The ticks until the target is met.
+pub fn ticks_to_go(device: Device) -> Reading
+    ensures { λ r. ⌜ TicksToGoIs device r ⌝ }
+{
+    if device::is_sound(device) {
+        told(device::ticks_to_go(device) as i64)
+    } else {
+        not_told()
+    }
+}
