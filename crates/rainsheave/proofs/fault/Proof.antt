@@ -1,8 +1,7 @@
--- The code and the definition make the same two tests, and a device that passes both takes the code.
+-- The code and the definition make the same two tests, and what passes them takes the code.
 use borrow.Author.Needs.{needs}
 use borrow.Author.Tests.{eq-eqb, ne-eqb, not-true, not-false}
 use Rattle.rainsheave.specs.Calls.{faultAnswer}
-use Rattle.rainsheave.proofs.Sound.{sound, unsound, sound-change, unsound-change}
 use Rattle.rainsheave.proofs.fault.Statement.{statement}
 use Rattle.rainsheave.proofs.fault.Tie as tie
 
@@ -13,14 +12,17 @@ fault-spec =
     (tie.spec
     (λ c κs. search needs)
     (λ c κs. search needs)
-    (λ c. record { result = rw (unsound-change (unsound (c .before .before .is-sound .ensures) (not-true _ (c .before .if1 .taken)))) (c .refused .ensures) })
+    (λ c.
+    let s = c .before .before .is-sound in
+    record { result = rw (← s .ensures, not-true (s .result) (c .before .if1 .taken)) (c .refused .ensures) })
     (λ c κs. search needs)
     (λ c.
     let t = c .before .before in
-    record { result = rw (c .refused2 .ensures, sound-change (sound (t .before .is-sound .ensures) (not-false _ (t .if1 .left))), eq-eqb _ _ (c .before .if2 .taken)) })
+    let s = t .before .is-sound in
+    record { result = rw (← s .ensures, not-false (s .result) (t .if1 .left), eq-eqb _ _ (c .before .if2 .taken)) (c .refused2 .ensures) })
     (λ c κs. search needs)
     (λ c κs. search needs)
     (λ c.
-    let e = c .before .before in
-    let t = e .before in
-    record { result = rw (c .done .ensures, c .before .fault .ensures, sound-change (sound (t .before .is-sound .ensures) (not-false _ (t .if1 .left))), ne-eqb _ _ (e .if2 .left)) }))
+    let u = c .before .before in
+    let s = u .before .before .is-sound in
+    record { result = rw (← s .ensures, not-false (s .result) (u .before .if1 .left), ne-eqb _ _ (u .if2 .left), ← c .before .fault .ensures) (c .done .ensures) }))

@@ -1,11 +1,13 @@
--- The code and the definition make the same test.
+-- The code and the definition make the same test, and what passes it tells its status word, a number that the cast keeps.
 use native.Mathlib.Omega.{arith}
 use borrow.Author.Needs.{needs}
-use Rattle.rainsheave.proofs.Sound.{sound, unsound, number-query, unsound-query}
+use Rattle.rainsheave.specs.Calls.{queryAnswer}
+use Rattle.rainsheave.proofs.Sound.{sound, number-told}
 use Rattle.rainsheave.proofs.status.Statement.{statement}
 use Rattle.rainsheave.proofs.status.Tie as tie
 
 pub status-spec : {M : Type 1} → statement M
+unfolding queryAnswer
 status-spec =
     tie.close
     (tie.spec
@@ -16,5 +18,5 @@ status-spec =
     (λ c κs. search needs)
     (λ c.
     let t = c .before .before in
-    record { result = rw (c .told .ensures, ← c .before .status .ensures) (number-query (sound (t .before .is-sound .ensures) (t .if1 .taken)) (omega arith)) })
-    (λ c. record { result = rw (unsound-query (unsound (c .before .before .is-sound .ensures) (c .before .if1 .left))) (c .not-told .ensures) }))
+    record { result = rw (c .told .ensures, ← t .before .is-sound .ensures, t .if1 .taken, ← c .before .status .ensures) (number-told (omega arith)) })
+    (λ c. record { result = rw (← c .before .before .is-sound .ensures, c .before .if1 .left) (c .not-told .ensures) }))

@@ -1,7 +1,7 @@
--- The code and the definition make the same test, and a device that passes it is ticked.
+-- The code and the definition make the same test, and what passes it is ticked.
 use borrow.Author.Needs.{needs}
 use Rattle.rainsheave.specs.Calls.{tickAnswer}
-use Rattle.rainsheave.proofs.Sound.{sound, unsound, sound-change, unsound-change}
+use Rattle.rainsheave.proofs.Sound.{sound}
 use Rattle.rainsheave.proofs.tick.Statement.{statement}
 use Rattle.rainsheave.proofs.tick.Tie as tie
 
@@ -16,5 +16,5 @@ tick-spec =
     (λ c κs. search needs)
     (λ c.
     let t = c .before .before in
-    record { result = rw (c .done .ensures, c .before .tick .ensures, sound-change (sound (t .before .is-sound .ensures) (t .if1 .taken))) })
-    (λ c. record { result = rw (unsound-change (unsound (c .before .before .is-sound .ensures) (c .before .if1 .left))) (c .refused .ensures) }))
+    record { result = rw (← t .before .is-sound .ensures, t .if1 .taken, ← c .before .tick .ensures) (c .done .ensures) })
+    (λ c. record { result = rw (← c .before .before .is-sound .ensures, c .before .if1 .left) (c .refused .ensures) }))
