@@ -12,15 +12,13 @@ use Rattle.integers.specs.Range.{Within}
 use Rattle.integers.proofs.Linear.{ints}
 use Rattle.integers.proofs.Cases.{by-cases, by-test, clash}
 use Rattle.integers.proofs.Each.{and-split, each-at}
-use Rattle.objects.specs.Table.{objects, sizeOf, rowAt}
+use Rattle.objects.specs.Table.{objects, rowAt}
 use Rattle.objects.specs.Lookup.{placeOf, entryAt}
 use Rattle.objects.specs.declared.Place.{Place}
 use Rattle.objects.specs.declared.Place.the-variants.{At, Nowhere}
 use Rattle.objects.specs.declared.Entry.{Entry}
 use Rattle.objects.specs.declared.Entry.the-variants.{Value, Fixed, Missing}
 use Rattle.objects.proofs.Rules.{found-below}
-use Rattle.coding.specs.Coding.{span, lowest, highest, Held, Typed}
-use Rattle.coding.proofs.Laws.{held}
 use Rattle.block.specs.Target.{setting, targetPosition}
 use Rattle.block.proofs.Sound.{sound-block}
 use Rattle.block.proofs.Laws.{command-within}
@@ -54,23 +52,6 @@ entry-in-table index sub = by (placeOf index) refl
     by Nowhere e = tt
 
 -- ---- values
-
--- a row's range lies within its type, by a test that is computed over the rows
-abbrev low-typed : ℕ → Bool
-low-typed place = lowest (rowAt place .size) (rowAt place .signed) ≤? rowAt place .low
-
-abbrev high-typed : ℕ → Bool
-high-typed place = rowAt place .high ≤? highest (rowAt place .size) (rowAt place .signed)
-
-pub row-typed : (place : ℕ) {value : ℤ} → place < 22 → Within (rowAt place .low) (rowAt place .high) value → Typed (rowAt place .size) (rowAt place .signed) value
-unfolding each objects sizeOf span
-row-typed place h w =
-    let low : low-typed place ≡ true = each-at 22 low-typed place refl h in
-    let high : high-typed place ≡ true = each-at 22 high-typed place refl h in
-    record { range = omega (arith, ints) }
-
-pub row-held : (place : ℕ) {value : ℤ} → place < 22 → Within (rowAt place .low) (rowAt place .high) value → Held (rowAt place .size) value
-row-held place h w = held (row-typed place h w)
 
 -- the values of a sound device lie in their rows' ranges
 module _ {d : Device} (s : Sound d) where

@@ -6,7 +6,7 @@ use mir.Val.{toZ, ofZ}
 use mir.Facts.{toZ-ofZ}
 use Rattle.integers.proofs.Machine.{ok-fits}
 use Rattle.sdo.specs.Serve.{readOf}
-use Rattle.sdo.proofs.Laws.{row-held}
+use Rattle.coding.proofs.Rows.{row-held}
 use Rattle.sdo.proofs.read_object.Statement.{statement}
 use Rattle.sdo.proofs.read_object.Tie as tie
 
