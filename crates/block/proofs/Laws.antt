@@ -1,16 +1,15 @@
 -- Where the numbers of the value chain lie, and on what the target depends.
-use mathlib.Core.Bool.{Bool, true, false}
-use mathlib.Core.Path.{_≡_, refl, sym, ap, _∙_}
-use Prim.Native.Nat.{ℕ, _*_, _≤_}
+use mathlib.Core.Bool.{Bool, false}
+use mathlib.Core.Path.{_≡_}
 use native.Mathlib.Omega.{arith}
-use lib.IntN.{ℤ, pos, natAbs, _*ℤ_}
+use lib.IntN.{ℤ, pos}
 use lib.Signed.{ltZ, _≤ℤ_, leZ-yes}
 use mir.Syntax.{w64}
 use mir.Val.{SFits, toZ, ofZ}
 use mir.Facts.{toZ-ofZ}
 use Rattle.integers.specs.Words.{minus}
 use Rattle.integers.specs.Range.{Within}
-use Rattle.integers.proofs.Linear.{ints, abs-nat, neg-nat}
+use Rattle.integers.proofs.Linear.{ints}
 use Rattle.integers.proofs.Cases.{by-test}
 use Rattle.integers.proofs.Range.{wider, fits, over, times, size, exactly}
 use Rattle.objects.specs.Table.{objects}

@@ -1,5 +1,5 @@
 -- A sound block by its parts, both ways: each setting in its row's range, the limits uncrossed, set point and position in range.
-use mathlib.Core.Bool.{Bool, true, false, _&&_}
+use mathlib.Core.Bool.{Bool, true, _&&_}
 use mathlib.Core.Path.{_≡_, refl}
 use mathlib.Core.List.{List}
 use Prim.Native.Nat.{ℕ, _<_}

@@ -2,10 +2,7 @@
 use mathlib.Core.Bool.{Bool}
 use mathlib.Core.Path.{_≡_, refl, sym, ap, _∙_}
 use Prim.Native.Nat.{ℕ, zero, suc, _+_}
-use native.Mathlib.Omega.{arith}
-use lib.IntN.{ℤ, pos, natAbs}
-use Rattle.integers.specs.Words.{minus}
-use Rattle.integers.specs.Range.{Within}
+use lib.IntN.{ℤ}
 use Rattle.integers.proofs.Range.{around}
 use Rattle.ramp.specs.Ramp.{ticked, Inside}
 use Rattle.ramp.specs.Demand.{Demand3}

@@ -1,9 +1,6 @@
 -- Control words, faults, ticks and jumps change no setting and no set point. So whenever a device is back in a state, its target is what it was: no change of state can add a correction again.
-use mathlib.Core.Bool.{Bool, true, false}
-use mathlib.Core.List.{List}
-use mathlib.Core.Path.{_≡_, refl, sym, ap, _∙_}
+use mathlib.Core.Path.{_≡_, refl, sym, _∙_}
 use Prim.Native.Nat.{ℕ}
-use lib.IntN.{ℤ}
 use Rattle.integers.proofs.Cases.{by-test}
 use Rattle.block.specs.declared.Block.{Block}
 use Rattle.block.specs.Travel.{tickBlock, jumpBlock}

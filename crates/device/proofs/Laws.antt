@@ -1,20 +1,16 @@
 -- A sound device by its parts, both ways; and that every event keeps a sound device sound.
-use mathlib.Core.Bool.{Bool, true, false, not, cond, _&&_, _||_}
+use mathlib.Core.Bool.{true, false, not, cond, _&&_, _||_}
 use mathlib.Core.Logic.{_≢_}
-use mathlib.Core.Path.{_≡_, refl, sym, ap, _∙_}
+use mathlib.Core.Path.{_≡_, refl, sym}
 use Prim.Native.Nat.{ℕ, _<_}
 use native.Mathlib.Omega.{arith}
-use borrow.Author.Tests.{ltb-true, lt-ltb, eqb-true, eqb-false, eq-eqb, ne-eqb, not-true}
+use borrow.Author.Tests.{ltb-true, lt-ltb, eqb-false, eq-eqb, ne-eqb}
 use lib.Dec.{ltb, eqb}
-use lib.IntN.{ℤ, pos}
-use Rattle.integers.specs.Words.{_=?_}
+use lib.IntN.{pos}
 use Rattle.integers.proofs.Cases.{by-cases, by-test, clash}
 use Rattle.integers.proofs.Each.{and-split, and-both}
-use Rattle.integers.proofs.Machine.{=?-yes, =?-refl}
-use Rattle.ramp.specs.Ramp.{Inside}
 use Rattle.block.specs.Sound.{soundBlock, freshBlock}
 use Rattle.block.specs.Sound as Blocks
-use Rattle.block.specs.Travel.{atPosition}
 use Rattle.block.proofs.Sound as BlockSound
 use Rattle.block.proofs.Travel as BlockTravel
 use Rattle.block.specs.declared.Block.{Block}

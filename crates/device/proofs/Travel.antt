@@ -1,21 +1,18 @@
 -- Demand 3 of a sound device, in all four states: not driven it rests at 0, and driven it is demand 3 of its block.
-use mathlib.Core.Bool.{Bool, true, false, _||_}
-use mathlib.Core.Logic.{_≢_}
+use mathlib.Core.Bool.{true, false}
 use mathlib.Core.Path.{_≡_, refl, sym, ap, _∙_}
-use Prim.Native.Nat.{ℕ, zero, suc, _+_, _≤_, _<_}
+use Prim.Native.Nat.{ℕ, zero, suc, _+_}
 use native.Mathlib.Omega.{arith}
-use lib.IntN.{ℤ, pos}
-use Rattle.integers.specs.Words.{_=?_}
-use Rattle.integers.proofs.Cases.{by-cases, clash}
+use lib.IntN.{pos}
+use Rattle.integers.proofs.Cases.{by-cases}
 use Rattle.integers.proofs.Machine.{=?-yes}
-use Rattle.block.specs.Target.{targetPosition}
-use Rattle.block.specs.Travel.{tickBlock, tickBlockTimes, jumpBlock, ticksToGoOf}
-use Rattle.block.proofs.Travel.{block-demand3, ticks-are-a-jump, jumps-add, target-stays}
+use Rattle.block.specs.Travel.{tickBlockTimes, jumpBlock, ticksToGoOf}
+use Rattle.block.proofs.Travel.{block-demand3, ticks-are-a-jump, jumps-add}
 use Rattle.device.specs.States.{driven}
 use Rattle.device.specs.Events.{withBlock, isActive, tickDevice, tickDeviceTimes, jumpDevice}
 use Rattle.device.specs.Queries.{deviceTicksToGo}
 use Rattle.device.specs.Sound.{restsAt, Sound}
-use Rattle.device.specs.Demand.{deviceTargetPosition, devicePositionAfter, Demand3}
+use Rattle.device.specs.Demand.{devicePositionAfter, Demand3}
 use Rattle.device.specs.declared.Device.{Device}
 use Rattle.device.proofs.Laws.{parts, sound-block}
 

@@ -1,6 +1,6 @@
 -- Where a whole number lies, step by step through an expression: each law takes what is known of the parts to what is known of the whole. At literals the ends compute, so that a sum, a product or a quotient fits is `fits (plus p q) tt tt`.
-use mathlib.Core.Path.{_≡_, refl}
-use Prim.Native.Nat.{ℕ, zero, suc, _+_, _-_, _*_, _/_, _%_, _^_, _≤_, _<_, max}
+use mathlib.Core.Path.{_≡_}
+use Prim.Native.Nat.{ℕ, zero, suc, _+_, _*_, _/_, _^_, _≤_, _<_, max}
 use native.Mathlib.Nat.{mul-le-mul, le-div-iff-mul-le, div-add-mod', div-zero, zero-lt-suc}
 use native.Mathlib.Omega.{arith}
 use lib.Dec.{T, ltb, ltb→lt}

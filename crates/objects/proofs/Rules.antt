@@ -1,5 +1,5 @@
 -- The table's rules, each by a test that is computed over the rows.
-use mathlib.Core.Path.{_≡_, refl, sym, ap, subst, _∙_}
+use mathlib.Core.Path.{_≡_, refl, ap, _∙_}
 use mathlib.Core.Bool.{Bool, true, false}
 use mathlib.Core.List.{List, [], _∷_}
 use Prim.Native.Nat.{ℕ, suc, _+_, _-_, _≤_, _<_}
@@ -9,7 +9,7 @@ use Rattle.integers.specs.Words.{each, _is_}
 use lib.ListN.{length}
 use Rattle.integers.proofs.Cases.{by-cases}
 use Rattle.integers.proofs.Each.{each-at}
-use Rattle.objects.specs.Table.{objects, columnsAt, rowAt}
+use Rattle.objects.specs.Table.{objects, rowAt}
 use Rattle.objects.specs.Lookup.{placeFrom, placeOf}
 use Rattle.objects.specs.declared.Columns.{Columns}
 use Rattle.objects.specs.declared.Place.{Place}

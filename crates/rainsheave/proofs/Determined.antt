@@ -4,15 +4,16 @@ use mathlib.Core.Path.{_≡_, sym, _∙_}
 use Prim.Native.Nat.{ℕ}
 use Rattle.device.specs.declared.Device.{Device}
 use Rattle.sdo.specs.declared.Answer.{Answer}
+use Rattle.rainsheave.specs.declared.Report.{Report}
 use Rattle.rainsheave.specs.declared.Change.{Change}
 use Rattle.rainsheave.specs.declared.Reading.{Reading}
-use Rattle.rainsheave.specs.Fixed.{FreshIs, SdoIs, ControlIs, FaultIs, TickIs, JumpIs, StateIs, StatusIs, ErrorIs, PositionIs, TargetIs, CommandIs, TicksToGoIs}
+use Rattle.rainsheave.specs.Fixed.{FreshIs, SdoIs, ControlIs, FaultIs, TickIs, JumpIs, StateIs, StatusIs, ErrorIs, PositionIs, TargetIs, CommandIs, TicksToGoIs, StoreIs, LoadIs, FindIs, FindCodeIs}
 
 -- two things that are equal to a third
 one {ℓ} : {A : Type ℓ} {x y z : A} → x ≡ z → y ≡ z → x ≡ y
 one p q = p ∙ sym q
 
-pub record Determined : Type 0 where
+pub record Determined : Type 1 where
   pub fresh : {r s : Device} → FreshIs r → FreshIs s → r ≡ s
   pub sdo : {d : Device} {request before after after′ : List ℕ} {r s : Answer} → SdoIs d request before after r → SdoIs d request before after′ s → (r ≡ s) × (after ≡ after′)
   pub control : {d : Device} {word : ℕ} {r s : Change} → ControlIs d word r → ControlIs d word s → r ≡ s
@@ -26,6 +27,11 @@ pub record Determined : Type 0 where
   pub target : {d : Device} {r s : Reading} → TargetIs d r → TargetIs d s → r ≡ s
   pub command : {d : Device} {r s : Reading} → CommandIs d r → CommandIs d s → r ≡ s
   pub ticks-to-go : {d : Device} {r s : Reading} → TicksToGoIs d r → TicksToGoIs d s → r ≡ s
+  pub store : {d : Device} {before after after′ : List ℕ} {r s : Report} → StoreIs d before after r → StoreIs d before after′ s → (r ≡ s) × (after ≡ after′)
+  pub load : {d : Device} {image : List ℕ} {r s : Change} → LoadIs d image r → LoadIs d image s → r ≡ s
+  -- the same bytes at the same place of the same block of memory: the same part of the caller's slice
+  pub find : {P : Type 0} {image : List ℕ} {tag : ℕ} {memory : P} {place : ℕ} {part part′ : List ℕ} {m m′ : P} {k k′ : ℕ} → FindIs image tag memory place part m k → FindIs image tag memory place part′ m′ k′ → (part ≡ part′) × (m ≡ m′) × (k ≡ k′)
+  pub find-code : {image : List ℕ} {tag r s : ℕ} → FindCodeIs image tag r → FindCodeIs image tag s → r ≡ s
 
 pub determined : Determined
 determined =
@@ -43,4 +49,8 @@ determined =
       target = λ p q. one (p .result) (q .result);
       command = λ p q. one (p .result) (q .result);
       ticks-to-go = λ p q. one (p .result) (q .result);
+      store = λ p q. (one (p .result) (q .result), one (p .bytes) (q .bytes));
+      load = λ p q. one (p .result) (q .result);
+      find = λ p q. (one (p .bytes) (q .bytes), one (p .same) (q .same), one (p .begins) (q .begins));
+      find-code = λ p q. one (p .result) (q .result);
     }

@@ -1,3 +1,4 @@
 pub mod Sound
 pub mod Determined
 pub mod Promises
+pub mod Images

@@ -1,38 +1,33 @@
 -- What the calls promise together: a refusal leaves everything as it was, a sound device stays sound, and `control` is an SDO write of 6040h.
-use mathlib.Core.Bool.{Bool, true, false, not, cond}
+use mathlib.Core.Bool.{not}
 use mathlib.Core.List.{List}
 use mathlib.Core.Logic.{_≢_}
-use mathlib.Core.Path.{_≡_, refl, sym, ap, _∙_}
+use mathlib.Core.Path.{_≡_, refl}
 use Prim.Native.Nat.{ℕ, _<_, _%_}
-use native.Mathlib.Nat.{mod-eq-of-lt}
 use native.Mathlib.Omega.{arith}
 use borrow.Author.Tests.{eqb-false}
 use lib.Dec.{eqb, ltb}
-use lib.IntN.{ℤ, pos, natAbs}
+use lib.IntN.{pos}
 use lib.ListN.{length}
 use Rattle.integers.proofs.Linear.{ints}
-use Rattle.integers.proofs.Cases.{by-cases, by-test, clash}
-use Rattle.integers.specs.Words.{each}
-use Rattle.objects.specs.Table.{objects, sizeOf, rowAt}
+use Rattle.integers.proofs.Cases.{by-cases, by-test}
+use Rattle.objects.specs.Table.{objects, sizeOf}
 use Rattle.objects.specs.Lookup.{placeFrom, placeOf, entryAt}
 use Rattle.coding.specs.Coding.{span, inSpan, valueOf}
 use Rattle.device.specs.Events.{controlled}
 use Rattle.device.specs.Sound.{soundDevice, Sound}
 use Rattle.device.specs.declared.Device.{Device}
 use Rattle.device.proofs.Laws as Devices
-use Rattle.sdo.specs.Frames.{asksOf, isDue, repliedIn, requestOf, byte}
+use Rattle.sdo.specs.Frames.{asksOf, repliedIn, requestOf, byte}
 use Rattle.sdo.specs.Entries.{writtenTo, crosses}
 use Rattle.sdo.specs.Aborts.{findEntry, verdictOn}
-use Rattle.sdo.specs.Serve.{answer, judged, writeOf, served}
+use Rattle.sdo.specs.Serve.{answer, writeOf, served}
 use Rattle.sdo.specs.declared.Request.{Request}
-use Rattle.sdo.specs.declared.Outcome.{Outcome}
-use Rattle.sdo.specs.declared.Outcome.the-variants.{Read, Written, Abort, Refused}
+use Rattle.sdo.specs.declared.Outcome.the-variants.{Written, Refused}
 use Rattle.sdo.specs.declared.Answer.{Answer}
 use Rattle.sdo.specs.declared.Verdict.the-variants.{Accepted}
 use Rattle.sdo.proofs.Promises.{not-written-unchanged, served-sound, is-accepted}
-use Rattle.rainsheave.specs.Calls.{isClientAbort, sdoAnswer, sdoRoom, numberOfReport, change, changed, controlAnswer, faultAnswer, tickAnswer, jumpAnswer}
-use Rattle.rainsheave.specs.declared.Report.{Report}
-use Rattle.rainsheave.specs.declared.Report.the-variants.{Done}
+use Rattle.rainsheave.specs.Calls.{isClientAbort, sdoAnswer, sdoRoom, numberOfReport, changed, controlAnswer, faultAnswer, tickAnswer, jumpAnswer}
 use Rattle.rainsheave.specs.declared.Change.{Change}
 
 -- ---- a refusal leaves everything as it was

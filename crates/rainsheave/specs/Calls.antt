@@ -5,7 +5,11 @@ use Prim.Native.Nat.{ℕ, _/_}
 use lib.IntN.{ℤ, pos}
 use lib.ListN.{length}
 use Rattle.integers.specs.Words.{if_then_else_, _is_, _below_}
-use Rattle.device.specs.Events.{controlled, faulted, tickDevice, jumpDevice}
+use Rattle.block.specs.Sound.{soundSettings}
+use Rattle.image.specs.Fields.{IMAGE-LENGTH, storedIn}
+use Rattle.image.specs.Load.{isFull, settingsIn}
+use Rattle.device.specs.States.{DISABLED}
+use Rattle.device.specs.Events.{withBlock, controlled, faulted, tickDevice, jumpDevice}
 use Rattle.device.specs.Sound.{soundDevice}
 use Rattle.device.specs.declared.Device.{Device}
 use Rattle.sdo.specs.Frames.{byte, requestOf, repliedIn}
@@ -90,3 +94,48 @@ unfoldable pub queryAnswer : Device → ℤ → Reading
 queryAnswer d value =
     if soundDevice d then record { value = value; number = 0 }
     else record { value = pos 0; number = UNSOUND }
+
+-- 6: image room under 97
+abbrev pub NO-IMAGE-ROOM : ℕ
+NO-IMAGE-ROOM = 6
+
+-- 7: not a full image
+abbrev pub NOT-FULL : ℕ
+NOT-FULL = 7
+
+-- 8: image value out of range, or limits crossed
+abbrev pub BAD-VALUE : ℕ
+BAD-VALUE = 8
+
+-- 9: load outside DISABLED
+abbrev pub NOT-DISABLED : ℕ
+NOT-DISABLED = 9
+
+-- a store with so much room: 1, 6
+unfoldable pub storeAnswer : Device → ℕ → Report
+storeAnswer d room =
+    if not (soundDevice d) then Refused UNSOUND
+    else if room below IMAGE-LENGTH then Refused NO-IMAGE-ROOM
+    else Done
+
+-- the room after it; a refusal writes nothing
+abbrev pub roomBy : Report → Device → List ℕ → List ℕ
+roomBy Done d room = storedIn (d .block .settings) room
+roomBy (Refused number) d room = room
+
+unfoldable pub storeRoom : Device → List ℕ → List ℕ
+storeRoom d room = roomBy (storeAnswer d (length room)) d room
+
+-- the device with other settings, and all else as it was
+abbrev pub withSettings : List ℤ → Device → Device
+withSettings settings d =
+    withBlock (record { setpoint = d .block .setpoint; position = d .block .position; settings = settings }) d
+
+-- a load: 1, 9, 7, 8
+unfoldable pub loadAnswer : Device → List ℕ → Change
+loadAnswer d image =
+    changed d
+    (if not (d .state is DISABLED) then change (Refused NOT-DISABLED) d
+    else if not (isFull image) then change (Refused NOT-FULL) d
+    else if not (soundSettings (settingsIn image)) then change (Refused BAD-VALUE) d
+    else change Done (withSettings (settingsIn image) d))

@@ -1,14 +1,16 @@
 -- What each call's result is fixed to be, in every case: the number, the value, the device, and every byte of each lent buffer.
 use mathlib.Core.List.{List}
 use mathlib.Core.Path.{_≡_}
-use Prim.Native.Nat.{ℕ}
-use lib.IntN.{ℤ, pos}
+use Prim.Native.Nat.{ℕ, _+_}
+use lib.IntN.{pos}
 use lib.ListN.{length}
 use Rattle.device.specs.Events.{freshDevice}
 use Rattle.device.specs.Queries.{statusOf, deviceTarget, deviceCommand, deviceTicksToGo}
 use Rattle.device.specs.declared.Device.{Device}
 use Rattle.sdo.specs.declared.Answer.{Answer}
-use Rattle.rainsheave.specs.Calls.{sdoAnswer, sdoRoom, controlAnswer, faultAnswer, tickAnswer, jumpAnswer, queryAnswer}
+use Rattle.rainsheave.specs.Calls.{sdoAnswer, sdoRoom, controlAnswer, faultAnswer, tickAnswer, jumpAnswer, queryAnswer, storeAnswer, storeRoom, loadAnswer}
+use Rattle.image.specs.Walk.{walk, partOf, beginOf, codeOf}
+use Rattle.rainsheave.specs.declared.Report.{Report}
 use Rattle.rainsheave.specs.declared.Change.{Change}
 use Rattle.rainsheave.specs.declared.Reading.{Reading}
 
@@ -64,3 +66,22 @@ pub record CommandIs (d : Device) (r : Reading) : Type 0 where
 -- `ticks_to_go`
 pub record TicksToGoIs (d : Device) (r : Reading) : Type 0 where
   pub result : r ≡ queryAnswer d (pos (deviceTicksToGo d))
+
+-- `store` of a device's settings, with the room for the image before and after
+pub record StoreIs (d : Device) (before after : List ℕ) (r : Report) : Type 0 where
+  pub result : r ≡ storeAnswer d (length before)
+  pub bytes : after ≡ storeRoom d before
+
+-- `load` of an image
+pub record LoadIs (d : Device) (image : List ℕ) (r : Change) : Type 0 where
+  pub result : r ≡ loadAnswer d image
+
+-- `find` of a tag in an image that stands at a place of a block of memory: the part's bytes, and that it is that part of the caller's own slice
+pub record FindIs {P : Type 0} (image : List ℕ) (tag : ℕ) (memory : P) (place : ℕ) (part : List ℕ) (memory′ : P) (place′ : ℕ) : Type 0 where
+  pub bytes : part ≡ partOf image (walk image tag)
+  pub same : memory′ ≡ memory
+  pub begins : place′ ≡ place + beginOf (walk image tag)
+
+-- `find_code`: the number of that search
+pub record FindCodeIs (image : List ℕ) (tag r : ℕ) : Type 0 where
+  pub result : r ≡ codeOf (walk image tag)

@@ -1,10 +1,10 @@
-// Rainsheave, the public library: every call, for every frame, event and state that can be handed in. No call has a `requires`:
+// Rainsheave, the public library: every call, for every frame, image, event and state that can be handed in. No call has a `requires`:
 // what is not allowed is refused by number, the device comes back as it came, and a refusal writes nothing.
 ghost use mathlib.Core.Path.{_≡_};
 ghost use lib.IntN.{pos};
 ghost use Rattle.device.specs.Sound.{soundDevice};
 ghost use Rattle.sdo.specs.Serve.{answer};
-ghost use Rattle.rainsheave.specs.Calls.{change};
+ghost use Rattle.rainsheave.specs.Calls.{change, withSettings};
 ghost use Rattle.rainsheave.specs.Fixed.{
   FreshIs,
   SdoIs,
@@ -19,7 +19,12 @@ ghost use Rattle.rainsheave.specs.Fixed.{
   TargetIs,
   CommandIs,
   TicksToGoIs,
+  StoreIs,
+  LoadIs,
+  FindIs,
+  FindCodeIs,
 };
+use device::DISABLED;
 use device::Device;
 use sdo::Answer;
 use sdo::Outcome;
@@ -34,6 +39,14 @@ const NO_ROOM: u8 = 3;
 const NO_REPLY_DUE: u8 = 4;
 
 const NO_FAULT: u8 = 5;
+
+const NO_IMAGE_ROOM: u8 = 6;
+
+const NOT_FULL: u8 = 7;
+
+const BAD_VALUE: u8 = 8;
+
+const NOT_DISABLED: u8 = 9;
 
 // What becomes of a call that changes the device.
 pub enum Report {
@@ -241,4 +254,64 @@ pub fn ticks_to_go(device: Device) -> Reading
     } else {
         not_told()
     }
+}
+
+// The image of the device's settings goes to the first 97 bytes of the room.
+pub fn store(device: Device, room: &mut [u8]) -> Report
+    ensures { λ r. ⌜ StoreIs device (now (room .entry)) (now (room .exit)) r ⌝ }
+{
+    if !device::is_sound(device) {
+        return Report::Refused(UNSOUND);
+    }
+    if room.len() < image::IMAGE_LENGTH {
+        return Report::Refused(NO_IMAGE_ROOM);
+    }
+    let block = device.block;
+    let settings = block.settings;
+    image::store(settings, room);
+    Report::Done
+}
+
+fn with_settings(device: Device, settings: [i64; 17]) -> Device
+    ensures { λ r. ⌜ r ≡ withSettings settings device ⌝ }
+{
+    let mut block = device.block;
+    block.settings = settings;
+    let mut loaded = device;
+    loaded.block = block;
+    loaded
+}
+
+// All the settings of a full image, or none.
+pub fn load(device: Device, image: &[u8]) -> Change
+    ensures { λ r. ⌜ LoadIs device (now (image .entry)) r ⌝ }
+{
+    if !device::is_sound(device) {
+        return refused(device, UNSOUND);
+    }
+    if device.state != DISABLED {
+        return refused(device, NOT_DISABLED);
+    }
+    if !image::is_full(image) {
+        return refused(device, NOT_FULL);
+    }
+    let settings = image::settings_in(image);
+    if !block::sound_settings(settings) {
+        return refused(device, BAD_VALUE);
+    }
+    done(with_settings(device, settings))
+}
+
+// The value bytes of the first field with a tag, as that part of the caller's own slice; empty where `find_code` is not 0.
+pub fn find(image: &[u8], tag: u8) -> &[u8]
+    ensures { λ r. ⌜ FindIs (now (image .entry)) tag (image .entry .ptr .0) (image .entry .ptr .1) (now r) (r .ptr .0) (r .ptr .1) ⌝ }
+{
+    image::find(image, tag)
+}
+
+// The number of that search: 0 found, 7 a field cut short, 10 not found.
+pub fn find_code(image: &[u8], tag: u8) -> u8
+    ensures { λ r. ⌜ FindCodeIs (now (image .entry)) tag r ⌝ }
+{
+    image::find_code(image, tag)
 }

@@ -1,11 +1,11 @@
 -- Steps are from 298 to full stroke, positions stay within full stroke, and the ticks to go are at most 7,206,322.
-use mathlib.Core.Bool.{Bool, true, false, cond}
-use mathlib.Core.Path.{_≡_, refl, sym, ap, _∙_, subst}
-use Prim.Native.Nat.{ℕ, _+_, _-_, _*_, _/_, _≤_, _<_, min, max}
+use mathlib.Core.Bool.{true}
+use mathlib.Core.Path.{_≡_}
+use Prim.Native.Nat.{ℕ, _+_, _*_, _≤_, _<_, max}
 use native.Mathlib.Nat.{le-div-iff-mul-le, div-le-self, mul-le-mul-right}
 use native.Mathlib.Omega.{arith}
 use lib.IntN.{ℤ, pos, natAbs, _-ℤ_}
-use lib.Signed.{ltZ, _≤ℤ_, _<ℤ_}
+use lib.Signed.{ltZ}
 use mir.Syntax.{w64}
 use mir.Val.{Fits}
 use Rattle.integers.specs.Words.{_=?_}
@@ -14,8 +14,8 @@ use Rattle.integers.proofs.Cases.{by-test, by-cases, clash}
 use Rattle.ramp.specs.Ramp.{FULL-STROKE, sideOf, awayTime, backTime, stepOf, distance, moved, ramped, stop, stride, decelerates, legTicks, ticksToGo, Inside, Timed, AllTimed, Sound, Way}
 use Rattle.ramp.specs.declared.Times.{Times}
 use Rattle.ramp.specs.declared.Ramp.{Ramp}
-use Rattle.ramp.proofs.Moves.{by-move, gap-up, gap-down, distance-self}
-use Rattle.ramp.proofs.Legs.{Across, falling, rising, Beside, high, low, by-leg, at-once, at-target, stop-unramped}
+use Rattle.ramp.proofs.Moves.{by-move, distance-self}
+use Rattle.ramp.proofs.Legs.{Beside, high, low, by-leg, at-once, at-target, stop-unramped}
 use Rattle.ramp.proofs.Rounding.{least}
 
 -- ---- times and steps

@@ -1,17 +1,16 @@
 -- Demand 3, from every sound ramp, target and position; and a way that takes all of its ticks.
 use mathlib.Core.Bool.{true, false}
-use mathlib.Core.Path.{_≡_, refl}
-use Prim.Native.Nat.{ℕ, suc, _<_}
+use mathlib.Core.Path.{_≡_}
+use Prim.Native.Nat.{ℕ}
 use native.Mathlib.Omega.{arith}
 use lib.IntN.{ℤ, pos}
-use lib.Signed.{_≤ℤ_, _<ℤ_}
 use Rattle.integers.proofs.Linear.{ints}
-use Rattle.integers.proofs.Cases.{by-less, by-less-ℤ, clash}
-use Rattle.ramp.specs.Ramp.{ramped, opposite, distance, moved, stop, stride, tickOf, ticked, Way}
+use Rattle.integers.proofs.Cases.{by-less-ℤ, clash}
+use Rattle.ramp.specs.Ramp.{ramped, opposite, moved, stop, stride, tickOf, ticked, Way}
 use Rattle.ramp.specs.Demand.{Demand3}
 use Rattle.ramp.specs.declared.Ramp.{Ramp}
 use Rattle.ramp.proofs.Moves.{by-move}
-use Rattle.ramp.proofs.Legs.{Across, falling, rising, Beside, high, low, beside, by-leg}
+use Rattle.ramp.proofs.Legs.{Beside, high, low, beside, by-leg}
 use Rattle.ramp.proofs.Bounds.{latest}
 use Rattle.ramp.proofs.Travel.{formula, jumps, kept, not-before, stays}
 

@@ -10,7 +10,6 @@ use Rattle.integers.specs.Words.{minus}
 use Rattle.integers.specs.Range.{Within}
 use Rattle.ramp.specs.Ramp.{sideOf, awayTime, backTime, stepOf, opposite, decelerates, distance, toward, moved, stop, stride, tickOf, ticked, legTicks, ticksToGo, positionAfter}
 use Rattle.ramp.specs.Demand.{Longest}
-use Rattle.ramp.specs.declared.Times.{Times}
 use Rattle.ramp.specs.declared.Ramp.{Ramp}
 
 -- so many ir, as positions

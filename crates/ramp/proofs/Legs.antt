@@ -1,19 +1,16 @@
 -- What the travel asks of `stop` and `stride`: on the way to the first stop neither changes, from there the ticks stop next at the target, and at the target they stay.
-use mathlib.Core.Bool.{Bool, true, false, not, cond, _&&_, _||_, and-false}
-use mathlib.Core.Path.{_≡_, refl, sym, ap, _∙_, subst}
-use mathlib.Core.Logic.{_≢_}
+use mathlib.Core.Bool.{true, false, and-false}
+use mathlib.Core.Path.{_≡_, refl, sym, _∙_}
 use Prim.Native.Nat.{ℕ, zero, suc, _*_, _≤_, _<_}
 use native.Mathlib.Omega.{arith}
-use borrow.Author.Tests.{lt-ltb, le-ltb, ltb-true, ltb-false}
-use lib.Dec.{ltb}
+use borrow.Author.Tests.{lt-ltb, le-ltb}
 use lib.IntN.{ℤ, pos, natAbs}
 use lib.Signed.{ltZ, _≤ℤ_, _<ℤ_}
-use Rattle.integers.specs.Words.{_=?_}
 use Rattle.integers.proofs.Linear.{ints, abs-high, abs-low}
-use Rattle.integers.proofs.Cases.{by-cases, by-less-ℤ, ltb-same, ltZ-same}
-use Rattle.ramp.specs.Ramp.{sideOf, backTime, opposite, decelerates, distance, moved, ramped, stop, stride, stepOf, awayTime}
+use Rattle.integers.proofs.Cases.{by-cases, by-less-ℤ, ltZ-same}
+use Rattle.ramp.specs.Ramp.{sideOf, backTime, opposite, decelerates, distance, moved, ramped, stop, stride}
 use Rattle.ramp.specs.declared.Ramp.{Ramp}
-use Rattle.ramp.proofs.Moves.{by-move, moved-none, distance-self}
+use Rattle.ramp.proofs.Moves.{by-move, moved-none}
 
 -- ---- sides of zero
 

@@ -1,11 +1,11 @@
 -- A move of p toward g by m. From below it adds the smaller of m and the distance, and from above it takes that away: all else is linear.
-use mathlib.Core.Bool.{Bool, true, false}
-use mathlib.Core.Path.{_≡_, refl, sym, ap, _∙_}
+use mathlib.Core.Bool.{true, false}
+use mathlib.Core.Path.{_≡_, _∙_}
 use Prim.Native.Nat.{ℕ, _+_, _-_, _≤_, _<_, min}
 use native.Mathlib.Omega.{arith}
 use borrow.Author.Tests.{lt-ltb, le-ltb}
-use lib.IntN.{ℤ, pos, natAbs, _+ℤ_, _-ℤ_}
-use lib.Signed.{ltZ, _≤ℤ_, _<ℤ_}
+use lib.IntN.{ℤ, pos, _+ℤ_, _-ℤ_}
+use lib.Signed.{ltZ, _≤ℤ_}
 use Rattle.integers.proofs.Linear.{ints, up, dn, add-nat, sub-nat, abs-nat}
 use Rattle.integers.proofs.Cases.{by-less, by-less-ℤ}
 use Rattle.ramp.specs.Ramp.{distance, toward, moved}

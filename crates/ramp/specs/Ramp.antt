@@ -2,7 +2,7 @@
 use mathlib.Core.Bool.{Bool, not, _&&_, _||_}
 use Prim.Native.Nat.{ℕ, zero, suc, _+_, _-_, _*_, _/_, _≤_, max}
 use lib.IntN.{ℤ, pos, natAbs, _+ℤ_, _-ℤ_}
-use Rattle.integers.specs.Words.{if_then_else_, minus, _<?_, _=?_, _below_}
+use Rattle.integers.specs.Words.{if_then_else_, _<?_, _=?_, _below_}
 use Rattle.integers.specs.Range.{Within}
 use Rattle.ramp.specs.declared.Times.{Times}
 use Rattle.ramp.specs.declared.Ramp.{Ramp}

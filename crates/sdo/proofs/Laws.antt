@@ -1,17 +1,17 @@
 -- Where the numbers of the service lie: places within the table, values within their types, and what an accepted write has shown.
 use mathlib.Core.Bool.{Bool, true, false, not, cond, _&&_, _||_}
-use mathlib.Core.Path.{_≡_, refl, sym, ap, _∙_}
-use Prim.Native.Nat.{ℕ, _+_, _<_, _≤_}
+use mathlib.Core.Path.{_≡_, refl}
+use Prim.Native.Nat.{ℕ, _<_, _≤_}
 use native.Mathlib.Omega.{arith}
-use borrow.Author.Tests.{ltb-true, eqb-true, not-false, not-true}
+use borrow.Author.Tests.{ltb-true, eqb-true, not-false}
 use lib.Dec.{eqb, ltb}
 use lib.IntN.{ℤ, pos}
-use lib.Signed.{ltZ, leZ}
-use Rattle.integers.specs.Words.{minus, each, _≤?_, _=?_}
+use lib.Signed.{ltZ}
+use Rattle.integers.specs.Words.{minus, each, _=?_}
 use Rattle.integers.specs.Range.{Within}
 use Rattle.integers.proofs.Linear.{ints}
-use Rattle.integers.proofs.Cases.{by-cases, by-test, clash}
-use Rattle.integers.proofs.Each.{and-split, each-at}
+use Rattle.integers.proofs.Cases.{by-test}
+use Rattle.integers.proofs.Each.{each-at}
 use Rattle.objects.specs.Table.{objects, rowAt}
 use Rattle.objects.specs.Lookup.{placeOf, entryAt}
 use Rattle.objects.specs.declared.Place.{Place}
@@ -29,9 +29,8 @@ use Rattle.device.specs.Sound.{Sound}
 use Rattle.device.specs.declared.Device.{Device}
 use Rattle.device.proofs.Laws as Devices
 use Rattle.sdo.specs.Entries.{crosses}
-use Rattle.sdo.specs.Aborts.{entered, located, findEntry, rangeCode, verdictOn}
+use Rattle.sdo.specs.Aborts.{entered, located, findEntry, verdictOn}
 use Rattle.sdo.specs.Asked.{InTable}
-use Rattle.sdo.specs.declared.Found.{Found}
 use Rattle.sdo.specs.declared.Verdict.{Verdict}
 use Rattle.sdo.specs.declared.Verdict.the-variants.{Accepted, Rejected}
 

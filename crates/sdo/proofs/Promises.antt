@@ -1,7 +1,7 @@
 -- What the service promises: a sound device stays sound, all but an acknowledged write leaves the device as it was, and an acknowledged write is read back.
-use mathlib.Core.Bool.{Bool, true, false, not, cond, _&&_}
+use mathlib.Core.Bool.{false}
 use mathlib.Core.Logic.{_≢_}
-use mathlib.Core.Path.{_≡_, refl, sym, ap, _∙_, subst}
+use mathlib.Core.Path.{_≡_, refl}
 use Prim.Native.Nat.{ℕ, _<_, _%_}
 use native.Mathlib.Omega.{arith}
 use borrow.Author.Tests.{eq-eqb}
@@ -9,7 +9,7 @@ use lib.IntN.{ℤ}
 use lib.Signed.{ltZ}
 use Rattle.integers.proofs.Linear.{ints}
 use Rattle.objects.specs.Table.{rowAt}
-use Rattle.coding.specs.Coding.{span, valueOf, numberOf}
+use Rattle.coding.specs.Coding.{span, valueOf}
 use Rattle.coding.proofs.Laws.{back-and-there}
 use Rattle.device.specs.Sound.{Sound}
 use Rattle.device.specs.declared.Device.{Device}
@@ -26,7 +26,7 @@ use Rattle.sdo.specs.declared.Found.the-variants.{Object, Byte, Nothing}
 use Rattle.sdo.specs.declared.Verdict.{Verdict}
 use Rattle.sdo.specs.declared.Verdict.the-variants.{Accepted, Rejected}
 use Rattle.sdo.specs.declared.Outcome.{Outcome}
-use Rattle.sdo.specs.declared.Outcome.the-variants.{Read, Written, Abort, Refused}
+use Rattle.sdo.specs.declared.Outcome.the-variants.{Read, Written, Abort}
 use Rattle.sdo.specs.declared.Answer.{Answer}
 use Rattle.sdo.proofs.Laws.{entry-in-table, Accept, accepted, writable-below}
 use Rattle.sdo.proofs.Written.{written-is-read, others-are-kept, written-sound}

@@ -4,7 +4,7 @@ use Prim.Native.Nat.{ℕ}
 use native.Mathlib.Omega.{arith}
 use lib.Dec.{T}
 use lib.IntN.{ℤ, pos, negsuc, natAbs}
-use lib.Signed.{nonNeg, yes-nonNeg}
+use lib.Signed.{nonNeg}
 use mir.Syntax.{w16}
 use mir.Val.{Fits}
 use Rattle.integers.specs.Range.{Within}

@@ -1,30 +1,30 @@
 -- An accepted write: the object has the value, every other object that can be written keeps its own, and a sound device stays sound.
-use mathlib.Core.Bool.{Bool, true, false}
+use mathlib.Core.Bool.{false}
 use mathlib.Core.List.{List}
 use mathlib.Core.Logic.{_≢_}
-use mathlib.Core.Path.{_≡_, refl, sym, ap, _∙_, subst}
-use Prim.Native.Nat.{ℕ, _<_, _≤_}
+use mathlib.Core.Path.{_≡_, refl, sym, ap, _∙_}
+use Prim.Native.Nat.{ℕ, _<_}
 use native.Mathlib.Omega.{arith}
-use borrow.Author.Tests.{lt-ltb, le-ltb, ltb-true, ltb-false, eqb-true, eqb-false, eq-eqb, ne-eqb}
-use lib.Dec.{eqb, ltb}
+use borrow.Author.Tests.{lt-ltb, eqb-true, eqb-false}
+use lib.Dec.{eqb}
 use lib.IntN.{ℤ, pos, natAbs}
-use lib.ListN.{length, getD, set, length-set}
+use lib.ListN.{length, set, length-set}
 use lib.Seq.{getD-set-same, getD-set-other}
 use lib.Signed.{ltZ, _≤ℤ_, pos-natAbs, yes-nonNeg}
 use Rattle.integers.specs.Range.{Within}
 use Rattle.integers.proofs.Linear.{ints}
-use Rattle.integers.proofs.Cases.{by-cases, by-test, by-less, clash}
+use Rattle.integers.proofs.Cases.{by-cases, by-less}
 use Rattle.objects.specs.Table.{objects, rowAt}
 use Rattle.block.specs.Target.{at, setting}
 use Rattle.block.specs.Sound as Blocks
 use Rattle.block.specs.Asked.{Integer16}
 use Rattle.block.specs.declared.Block.{Block}
-use Rattle.block.proofs.Sound.{SoundSettings, SoundBlock, sound-block, block-sound}
+use Rattle.block.proofs.Sound.{SoundSettings, sound-block, block-sound}
 use Rattle.device.specs.Events.{withBlock, controlled}
 use Rattle.device.specs.Sound.{Sound}
 use Rattle.device.specs.declared.Device.{Device}
 use Rattle.device.proofs.Laws as Devices
-use Rattle.device.proofs.Kept.{SameSettings, controlled-keeps}
+use Rattle.device.proofs.Kept.{controlled-keeps}
 use Rattle.sdo.specs.Entries.{valueAt, withSetting, withSetpoint, writtenTo, crosses}
 use Rattle.sdo.proofs.Laws.{Accept}
 

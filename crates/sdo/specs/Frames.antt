@@ -1,7 +1,7 @@
 -- Document 01, "SDO": the bytes of a request and of its reply.
 use mathlib.Core.Bool.{Bool, true, false}
 use mathlib.Core.List.{List, [], _∷_, _++_}
-use Prim.Native.Nat.{ℕ, _+_, _%_, _/_}
+use Prim.Native.Nat.{ℕ, _%_, _/_}
 use lib.ListN.{getD, drop}
 use Rattle.integers.specs.Words.{if_then_else_, _is_}
 use Rattle.coding.specs.Bytes.{twoOf, fourOf, fourBytes}

@@ -15,7 +15,7 @@ use Rattle.sdo.specs.declared.Found.the-variants.{Object, Byte, Nothing}
 use Rattle.sdo.specs.declared.Verdict.{Verdict}
 use Rattle.sdo.specs.declared.Verdict.the-variants.{Accepted, Rejected}
 use Rattle.sdo.specs.declared.Outcome.{Outcome}
-use Rattle.sdo.specs.declared.Outcome.the-variants.{Read, Written, Abort, Refused}
+use Rattle.sdo.specs.declared.Outcome.the-variants.{Read, Written, Abort}
 use Rattle.sdo.specs.declared.Answer.{Answer}
 
 -- an outcome beside the device

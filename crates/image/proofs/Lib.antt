@@ -1,0 +1,5 @@
+pub mod Stored
+pub mod Loaded
+pub mod Split
+pub mod Walks
+pub mod Trip

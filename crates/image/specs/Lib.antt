@@ -1,0 +1,4 @@
+pub mod Fields
+pub mod Load
+pub mod Walk
+pub mod Asked
