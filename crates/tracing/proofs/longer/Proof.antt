@@ -1,0 +1,27 @@
+-- The loop has copied the first i bytes.
+use Prim.Native.Nat.{_-_, _≤_}
+use mathlib.Core.Path.{_≡_}
+use lib.ListN.{length}
+use borrow.Author.Needs.{needs}
+use Rattle.tracing.proofs.longer.Statement.{statement}
+use Rattle.tracing.proofs.longer.Tie as tie
+
+abbrev Inv-loop : tie.InvT-loop
+Inv-loop last image bytes₀ i₀ bytes i = (i ≤ 97) × (length bytes ≡ 98)
+
+abbrev μ-loop : tie.MeasureT-loop
+μ-loop last image bytes₀ i₀ bytes i = 97 - i
+
+pub longer-spec : {M : Type 1} → statement M
+longer-spec =
+    tie.close
+    (tie.spec
+    Inv-loop
+    μ-loop
+    (λ c. search needs)
+    (λ c. search needs)
+    (λ c. search needs)
+    (λ c. search needs)
+    (λ c. search needs)
+    (λ c. search needs)
+    (λ c. search needs))

@@ -1,0 +1,452 @@
+// A run of events over a device, with a line of text for each event.
+mod text;
+mod unsound;
+
+use crate::text::put;
+use crate::text::put_all;
+use crate::text::put_bytes;
+use crate::text::put_number;
+use crate::text::put_value;
+use device::Device;
+use image::IMAGE_LENGTH;
+use rainsheave::Change;
+use rainsheave::Reading;
+use rainsheave::Report;
+use sdo::Outcome;
+
+// A run: its device, and the image that was stored last.
+pub struct Run {
+    pub device: Device,
+    pub image: [u8; 97],
+}
+
+// What a record says.
+pub struct Event {
+    pub kind: u8,
+    pub small: u8,
+    pub word: u16,
+    pub number: u32,
+    pub bytes: [u8; 8],
+}
+
+// A run, and where its text ends.
+pub struct Traced {
+    pub run: Run,
+    pub end: usize,
+}
+
+const RECORD_LENGTH: usize = 16;
+
+// Every byte of a room before the call.
+const UNTOUCHED: u8 = 0xAA;
+
+// The kinds of event.
+const FRESH: u8 = 0;
+
+const SDO: u8 = 1;
+
+const CONTROL: u8 = 2;
+
+const FAULT: u8 = 3;
+
+const TICK: u8 = 4;
+
+const JUMP: u8 = 5;
+
+const STORE: u8 = 6;
+
+const LOAD: u8 = 7;
+
+const FIND: u8 = 8;
+
+const QUERY: u8 = 9;
+
+const UNSOUND: u8 = 10;
+
+const TICKS: u8 = 11;
+
+// How a load alters the image.
+const CUT: u8 = 1;
+
+const REPLACED: u8 = 2;
+
+const LONGER: u8 = 3;
+
+// A run at its start.
+pub fn start() -> Run {
+    let device = rainsheave::fresh();
+    let image = [0u8; 97];
+    Run { device, image }
+}
+
+fn with_device(run: Run, device: Device) -> Run {
+    let image = run.image;
+    Run { device, image }
+}
+
+// The first n bytes, or all where there are no more.
+fn first(bytes: &[u8], n: usize) -> &[u8] {
+    if n < bytes.len() { &bytes[0..n] } else { bytes }
+}
+
+fn first_mut(bytes: &mut [u8], n: usize) -> &mut [u8] {
+    if n < bytes.len() {
+        &mut bytes[0..n]
+    } else {
+        bytes
+    }
+}
+
+// The byte at a place; past the end it is 0.
+fn byte_at(bytes: &[u8], place: usize) -> u8 {
+    if place < bytes.len() { bytes[place] } else { 0 }
+}
+
+// ---- the parts of a line
+
+// The name of an event, and the number handed back.
+fn put_result(text: &mut [u8], at: usize, name: &[u8], number: u8) -> usize {
+    let at = put_all(text, at, name);
+    let at = put(text, at, b' ');
+    put_number(text, at, number as u64)
+}
+
+fn put_answer(text: &mut [u8], at: usize, reading: Reading) -> usize {
+    let at = put(text, at, b' ');
+    put_value(text, at, reading.value)
+}
+
+// The end of a line: the device after the event.
+fn put_device(text: &mut [u8], at: usize, device: Device) -> usize {
+    let at = put_all(text, at, b" |");
+    let at = put_answer(text, at, rainsheave::state(device));
+    let at = put_answer(text, at, rainsheave::status(device));
+    let at = put_answer(text, at, rainsheave::position(device));
+    put(text, at, b'\n')
+}
+
+fn number_of(report: Report) -> u8 {
+    match report {
+        Report::Done => 0,
+        Report::Refused(number) => number,
+    }
+}
+
+fn number_of_outcome(outcome: Outcome) -> u8 {
+    match outcome {
+        Outcome::Read { size: _, number: _ } => 0,
+        Outcome::Written => 0,
+        Outcome::Abort(_) => 0,
+        Outcome::Refused(number) => number,
+    }
+}
+
+// ---- the events
+
+// A call that hands back a number and a device, and nothing more.
+fn trace_change(run: Run, change: Change, text: &mut [u8], at: usize, name: &[u8]) -> Traced {
+    let device = change.device;
+    let report = change.report;
+    let end = put_result(text, at, name, number_of(report));
+    let run = with_device(run, device);
+    Traced { run, end }
+}
+
+fn trace_fresh(run: Run, text: &mut [u8], at: usize) -> Traced {
+    let run = with_device(run, rainsheave::fresh());
+    let end = put_all(text, at, b"fresh");
+    Traced { run, end }
+}
+
+fn trace_sdo_in(run: Run, request: &[u8], room: &mut [u8], text: &mut [u8], at: usize) -> Traced {
+    let device = run.device;
+    let answer = rainsheave::sdo(device, request, room);
+    let device = answer.device;
+    let outcome = answer.outcome;
+    let at = put_result(text, at, b"sdo", number_of_outcome(outcome));
+    let end = put_bytes(text, at, room);
+    let run = with_device(run, device);
+    Traced { run, end }
+}
+
+fn trace_sdo(run: Run, event: Event, text: &mut [u8], at: usize) -> Traced {
+    let bytes = event.bytes;
+    let mut room = [UNTOUCHED; 12];
+    let request = first(&bytes, event.small as usize);
+    let reply = first_mut(&mut room, event.word as usize);
+    trace_sdo_in(run, request, reply, text, at)
+}
+
+// So many single ticks. The report is that of the last.
+fn ticks(device: Device, n: u16) -> Change {
+    let report = Report::Done;
+    let mut change = Change { device, report };
+    let mut i = 0;
+    while i < n {
+        let device = change.device;
+        change = rainsheave::tick(device);
+        i += 1;
+    }
+    change
+}
+
+// The image at the start of a room.
+fn image_in(room: &[u8]) -> [u8; 97] {
+    let mut image = [0u8; 97];
+    let mut i = 0;
+    while i < IMAGE_LENGTH {
+        let byte = byte_at(room, i);
+        image[i] = byte;
+        i += 1;
+    }
+    image
+}
+
+// The run after a store: one that is done replaces the image.
+fn stored(run: Run, number: u8, room: &[u8]) -> Run {
+    if number == 0 {
+        let device = run.device;
+        let image = image_in(room);
+        Run { device, image }
+    } else {
+        run
+    }
+}
+
+fn trace_store_in(run: Run, room: &mut [u8], text: &mut [u8], at: usize) -> Traced {
+    let device = run.device;
+    let number = number_of(rainsheave::store(device, room));
+    let at = put_result(text, at, b"store", number);
+    let end = put_bytes(text, at, room);
+    let run = stored(run, number, room);
+    Traced { run, end }
+}
+
+fn trace_store(run: Run, event: Event, text: &mut [u8], at: usize) -> Traced {
+    let mut room = [UNTOUCHED; 100];
+    let room = first_mut(&mut room, event.word as usize);
+    trace_store_in(run, room, text, at)
+}
+
+// The image with one byte more at its end.
+fn longer(image: [u8; 97], last: u8) -> [u8; 98] {
+    let mut bytes = [last; 98];
+    let mut i = 0;
+    while i < IMAGE_LENGTH {
+        bytes[i] = image[i];
+        i += 1;
+    }
+    bytes
+}
+
+// The image that is loaded, with room for one byte more than is in it.
+fn altered(image: [u8; 97], event: Event) -> [u8; 98] {
+    let byte = coding::byte_of(event.number, 0);
+    let place = event.word as usize % IMAGE_LENGTH;
+    let mut bytes = longer(image, byte);
+    if event.small == REPLACED {
+        bytes[place] = byte;
+    }
+    bytes
+}
+
+fn least(a: usize, b: usize) -> usize {
+    if a < b { a } else { b }
+}
+
+// How much of it is loaded.
+fn altered_length(small: u8, word: u16) -> usize {
+    match small {
+        CUT => least(word as usize, IMAGE_LENGTH),
+        LONGER => IMAGE_LENGTH + 1,
+        _ => IMAGE_LENGTH,
+    }
+}
+
+fn trace_load(run: Run, event: Event, text: &mut [u8], at: usize) -> Traced {
+    let device = run.device;
+    let image = run.image;
+    let bytes = altered(image, event);
+    let length = altered_length(event.small, event.word);
+    let change = rainsheave::load(device, first(&bytes, length));
+    trace_change(run, change, text, at, b"load")
+}
+
+// Where the first field with a tag ends: after the fewest bytes in which it is found.
+fn field_end(image: &[u8], tag: u8) -> usize {
+    let mut end = 0;
+    while end < image.len() {
+        if rainsheave::find_code(first(image, end), tag) == 0 {
+            return end;
+        }
+        end += 1;
+    }
+    end
+}
+
+// Where a part of so many bytes begins, which ends at the end of its field. No code sees where a slice lies.
+fn part_begin(image: &[u8], tag: u8, length: usize) -> usize {
+    let end = field_end(image, tag);
+    if 0 < length && length <= end {
+        end - length
+    } else {
+        0
+    }
+}
+
+fn put_find(text: &mut [u8], at: usize, image: &[u8], tag: u8) -> usize {
+    let at = put_result(text, at, b"find", rainsheave::find_code(image, tag));
+    let part = rainsheave::find(image, tag);
+    let at = put(text, at, b' ');
+    let begin = part_begin(image, tag, part.len());
+    let at = put_number(text, at, begin as u64);
+    put_bytes(text, at, part)
+}
+
+fn trace_find(run: Run, event: Event, text: &mut [u8], at: usize) -> Traced {
+    let image = run.image;
+    let end = put_find(text, at, first(&image, event.word as usize), event.small);
+    Traced { run, end }
+}
+
+// A query's number and value.
+fn put_reading(text: &mut [u8], at: usize, reading: Reading) -> usize {
+    let at = put_result(text, at, b"", reading.number);
+    let at = put(text, at, b'/');
+    put_value(text, at, reading.value)
+}
+
+fn put_state(text: &mut [u8], at: usize, device: Device) -> usize {
+    let at = put_reading(text, at, rainsheave::state(device));
+    let at = put_reading(text, at, rainsheave::status(device));
+    put_reading(text, at, rainsheave::error(device))
+}
+
+fn put_motion(text: &mut [u8], at: usize, device: Device) -> usize {
+    let at = put_reading(text, at, rainsheave::position(device));
+    let at = put_reading(text, at, rainsheave::target(device));
+    let at = put_reading(text, at, rainsheave::command(device));
+    put_reading(text, at, rainsheave::ticks_to_go(device))
+}
+
+// Every query.
+fn trace_query(run: Run, text: &mut [u8], at: usize) -> Traced {
+    let device = run.device;
+    let at = put_all(text, at, b"query");
+    let at = put_state(text, at, device);
+    let end = put_motion(text, at, device);
+    Traced { run, end }
+}
+
+// An unsound device is handed to a call; the run's device stays.
+fn trace_unsound(run: Run, event: Event, text: &mut [u8], at: usize) -> Traced {
+    let device = run.device;
+    let image = run.image;
+    let device = unsound::altered(device, event.small, event.word);
+    let end = put_result(text, at, b"unsound", unsound::call(device, event, image));
+    Traced { run, end }
+}
+
+fn trace_unknown(run: Run, kind: u8, text: &mut [u8], at: usize) -> Traced {
+    let end = put_result(text, at, b"unknown", kind);
+    Traced { run, end }
+}
+
+// The run after an event, and the line up to the device.
+fn trace_kind(run: Run, event: Event, text: &mut [u8], at: usize) -> Traced {
+    let device = run.device;
+    let kind = event.kind;
+    match kind {
+        FRESH => trace_fresh(run, text, at),
+        SDO => trace_sdo(run, event, text, at),
+        CONTROL => trace_change(
+            run,
+            rainsheave::control(device, event.word),
+            text,
+            at,
+            b"control",
+        ),
+        FAULT => trace_change(
+            run,
+            rainsheave::fault(device, event.word),
+            text,
+            at,
+            b"fault",
+        ),
+        TICK => trace_change(run, rainsheave::tick(device), text, at, b"tick"),
+        JUMP => trace_change(
+            run,
+            rainsheave::jump(device, event.number),
+            text,
+            at,
+            b"jump",
+        ),
+        STORE => trace_store(run, event, text, at),
+        LOAD => trace_load(run, event, text, at),
+        FIND => trace_find(run, event, text, at),
+        QUERY => trace_query(run, text, at),
+        UNSOUND => trace_unsound(run, event, text, at),
+        TICKS => trace_change(run, ticks(device, event.word), text, at, b"ticks"),
+        _ => trace_unknown(run, kind, text, at),
+    }
+}
+
+// ---- records
+
+fn event_of(record: &[u8]) -> Event {
+    let bytes = [
+        byte_at(record, 8),
+        byte_at(record, 9),
+        byte_at(record, 10),
+        byte_at(record, 11),
+        byte_at(record, 12),
+        byte_at(record, 13),
+        byte_at(record, 14),
+        byte_at(record, 15),
+    ];
+    Event {
+        kind: byte_at(record, 0),
+        small: byte_at(record, 1),
+        word: coding::two_of(byte_at(record, 2), byte_at(record, 3)),
+        number: coding::four_of(
+            byte_at(record, 4),
+            byte_at(record, 5),
+            byte_at(record, 6),
+            byte_at(record, 7),
+        ),
+        bytes: bytes,
+    }
+}
+
+// The event of a record, and its line.
+fn trace_record(traced: Traced, record: &[u8], text: &mut [u8]) -> Traced {
+    let run = traced.run;
+    let traced = trace_kind(run, event_of(record), text, traced.end);
+    let run = traced.run;
+    let device = run.device;
+    let end = put_device(text, traced.end, device);
+    Traced { run, end }
+}
+
+// The line of a record that was cut short.
+fn trace_part(traced: Traced, length: usize, text: &mut [u8]) -> Traced {
+    if length == 0 {
+        return traced;
+    }
+    let run = traced.run;
+    let at = put_all(text, traced.end, b"part ");
+    let at = put_number(text, at, length as u64);
+    let end = put(text, at, b'\n');
+    Traced { run, end }
+}
+
+// Every record, with its line from the start of the text on, and a part record at the end.
+pub fn trace(run: Run, records: &[u8], text: &mut [u8]) -> Traced {
+    let mut traced = Traced { run, end: 0 };
+    let mut from = 0;
+    while RECORD_LENGTH <= records.len() - from {
+        traced = trace_record(traced, &records[from..], text);
+        from += RECORD_LENGTH;
+    }
+    trace_part(traced, records.len() - from, text)
+}

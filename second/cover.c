@@ -1,0 +1,344 @@
+/* `second cover`: what of document 01 an event file has reached. */
+#include <inttypes.h>
+#include <stdio.h>
+#include <string.h>
+
+#include "modes.h"
+#include "run.h"
+
+/* ---- The items ---- */
+
+static const enum abort_code abort_codes[] = {
+    ABORT_COMMAND, ABORT_NO_OBJECT, ABORT_NO_SUB_INDEX, ABORT_READ_ONLY, ABORT_SIZE,
+    ABORT_VALUE,   ABORT_TOO_HIGH,  ABORT_TOO_LOW,      ABORT_LIMITS,    ABORT_LOCKED,
+};
+enum { ABORT_CODES = sizeof abort_codes / sizeof abort_codes[0] };
+
+static const char *const state_names[STATES] = {"DISABLED", "HOLD", "ACTIVE", "FAULT"};
+
+/* One tick's way. A crossing is from one side of zero to the other: at once in
+ * type 0, by the halt at zero in types 1 to 3. */
+enum way { UP_POSITIVE, DOWN_POSITIVE, UP_NEGATIVE, DOWN_NEGATIVE, CROSS_DOWN, CROSS_UP, WAYS };
+static const char *const way_names[WAYS] = {
+    "up-on-positive-side",   "down-on-positive-side", "up-on-negative-side",
+    "down-on-negative-side", "positive-to-negative",  "negative-to-positive",
+};
+enum { RAMP_TYPES = 4, DEAD_BAND_TYPES = 2 };
+
+enum band { BAND_POSITIVE, BAND_NEGATIVE, BAND_INSIDE, BANDS };
+static const char *const band_names[BANDS] = {"positive", "negative", "in-band"};
+
+enum example { ABOVE_BAND, BELOW_BAND, RESET_EDGE, LIMITS_EQUAL, FRESH_STATUS, EXAMPLES };
+static const char *const example_names[EXAMPLES] = {
+    "21-gives-321",
+    "minus-21-gives-minus-221",
+    "FAULT-with-8-stored-8-stays-0-then-8-leaves",
+    "with-00-C0-for-FF-BF-it-is-accepted",
+    "fresh-40-41-60-00-gives-4B-41-60-00-08",
+};
+
+enum { SUBS = 4 };
+
+static struct {
+    uint64_t abort[ABORT_CODES];
+    uint64_t number[NUMBERS];
+    uint64_t move[STATES][STATES]; /* by a control word; equal states: no move */
+    uint64_t fault[STATES];
+    uint64_t held_reset;
+    uint64_t ramp[RAMP_TYPES][WAYS];
+    uint64_t band[DEAD_BAND_TYPES][BANDS];
+    uint64_t write[OBJECTS];
+    uint64_t read[OBJECTS][SUBS];
+    uint64_t example[EXAMPLES];
+} counts;
+
+/* ---- What one event did ---- */
+
+struct seen {
+    const struct record *record;
+    const struct outcome *outcome;
+    const struct device *before;
+    const struct device *after;
+};
+
+/* FAULT with 8 stored: how many of the words 8, 0, 8 have come in a row. */
+static int reset_steps;
+
+static void follow_reset_edge(const struct seen *seen, uint16_t word)
+{
+    bool was_fault = seen->before->state == FAULT;
+    bool is_fault = seen->after->state == FAULT;
+    if (reset_steps == 2 && was_fault && word == 8 && !is_fault) {
+        counts.example[RESET_EDGE]++;
+        reset_steps = 0;
+    } else if (reset_steps == 1 && was_fault && word == 0 && is_fault) {
+        reset_steps = 2;
+    } else {
+        reset_steps = was_fault && seen->before->control_word == 8 && word == 8 && is_fault;
+    }
+}
+
+static void count_control(const struct seen *seen, uint16_t word)
+{
+    enum { RESET_BIT = 8 };
+    uint8_t from = seen->before->state;
+    uint8_t to = seen->after->state;
+    bool held = (seen->before->control_word & word & RESET_BIT) != 0;
+    if (from == FAULT && to == FAULT && held)
+        counts.held_reset++;
+    else
+        counts.move[from][to]++;
+    follow_reset_edge(seen, word);
+}
+
+static void count_tick(const struct device *before, const struct device *after)
+{
+    int64_t from = before->position;
+    int64_t to = after->position;
+    int64_t target = device_query(before, QUERY_TARGET).value;
+    bool crosses = (from > 0 && target < 0) || (from < 0 && target > 0);
+    bool across = before->setting[RAMP_TYPE] == 0 || to == 0;
+    uint64_t *ways = counts.ramp[before->setting[RAMP_TYPE]];
+    if (from == to || before->state == DISABLED || before->state == FAULT)
+        return;
+    if (crosses && across)
+        ways[from > 0 ? CROSS_DOWN : CROSS_UP]++;
+    else if (from > 0 || to > 0)
+        ways[to > from ? UP_POSITIVE : DOWN_POSITIVE]++;
+    else
+        ways[to > from ? UP_NEGATIVE : DOWN_NEGATIVE]++;
+}
+
+static void count_ticks(const struct seen *seen, uint32_t ticks)
+{
+    struct device device = *seen->before;
+    for (uint32_t i = 0; i < ticks; i++) {
+        struct device before = device;
+        device_tick(&device);
+        count_tick(&before, &device);
+    }
+}
+
+/* The command that was told; its result is 0 exactly within the band. */
+static void count_command(const struct device *device, int64_t command)
+{
+    const int64_t *setting = device->setting;
+    int64_t r = device->position / PER_IR;
+    if (device->state == DISABLED || device->state == FAULT)
+        return;
+    enum band band = command > 0 ? BAND_POSITIVE : command < 0 ? BAND_NEGATIVE : BAND_INSIDE;
+    counts.band[setting[DEAD_BAND_TYPE]][band]++;
+    if (setting[DEAD_BAND_TYPE] != 1 || setting[DEAD_BAND_THRESHOLD] != 20 ||
+        setting[DEAD_BAND_A_SIDE] != 300 || setting[DEAD_BAND_B_SIDE] != 200)
+        return;
+    counts.example[ABOVE_BAND] += r == 21 && command == 321;
+    counts.example[BELOW_BAND] += r == -21 && command == -221;
+}
+
+/* ---- SDO ---- */
+
+static uint16_t word_at(const uint8_t *bytes)
+{
+    return (uint16_t)(bytes[0] | bytes[1] << 8);
+}
+
+static void count_abort(const uint8_t *reply)
+{
+    uint32_t code = word_at(&reply[4]) | (uint32_t)word_at(&reply[6]) << 16;
+    for (size_t i = 0; i < ABORT_CODES; i++)
+        if ((uint32_t)abort_codes[i] == code)
+            counts.abort[i]++;
+}
+
+static void count_read(const struct seen *seen, const struct object *object)
+{
+    const uint8_t *reply = seen->outcome->bytes;
+    uint8_t sub = reply[3];
+    counts.read[object - objects][sub]++;
+    if (object->value == COMMAND && sub == 1) {
+        int64_t value = word_at(&reply[4]);
+        count_command(seen->before, value > INT16_MAX ? value - 65536 : value);
+    }
+}
+
+static void count_exchanges(const struct seen *seen)
+{
+    static const uint8_t exchanges[][2 * SDO_SIZE] = {
+        {0x2b, 0x20, 0x63, 0x01, 0x00, 0xc0, 0, 0, 0x60, 0x20, 0x63, 0x01, 0, 0, 0, 0},
+        {0x40, 0x41, 0x60, 0x00, 0, 0, 0, 0, 0x4b, 0x41, 0x60, 0x00, 0x08, 0, 0, 0},
+    };
+    struct device fresh = device_fresh();
+    if (!device_equal(seen->before, &fresh))
+        return;
+    for (size_t i = 0; i < 2; i++)
+        if (memcmp(exchanges[i], seen->record->bytes, SDO_SIZE) == 0 &&
+            memcmp(&exchanges[i][SDO_SIZE], seen->outcome->bytes, SDO_SIZE) == 0)
+            counts.example[LIMITS_EQUAL + i]++;
+}
+
+static void count_sdo(const struct seen *seen)
+{
+    const uint8_t *reply = seen->outcome->bytes;
+    if (seen->outcome->number != DONE)
+        return;
+    const struct object *object = object_find(word_at(&reply[1]));
+    if (reply[0] == ABORT) {
+        count_abort(reply);
+    } else if (reply[0] == WRITTEN) {
+        counts.write[object - objects]++;
+        if (object->value == CONTROL_WORD)
+            count_control(seen, word_at(&seen->record->bytes[4]));
+    } else {
+        count_read(seen, object);
+    }
+    count_exchanges(seen);
+}
+
+static void count_event(const struct seen *seen)
+{
+    const struct record *record = seen->record;
+    if (record->kind != EVENT_FRESH && record->kind < EVENT_KINDS)
+        counts.number[seen->outcome->number]++;
+    switch (record->kind) {
+    case EVENT_FRESH:
+        reset_steps = 0;
+        break;
+    case EVENT_SDO:
+        count_sdo(seen);
+        break;
+    case EVENT_CONTROL:
+        count_control(seen, record->word);
+        break;
+    case EVENT_FAULT:
+        if (seen->outcome->number == DONE)
+            counts.fault[seen->before->state]++;
+        break;
+    case EVENT_TICK:
+        count_ticks(seen, 1);
+        break;
+    case EVENT_TICKS:
+        count_ticks(seen, record->word);
+        break;
+    case EVENT_QUERY:
+        count_command(seen->before, seen->outcome->query[QUERY_COMMAND].value);
+        break;
+    default:
+        break;
+    }
+}
+
+/* ---- The list ---- */
+
+enum { NAME_ROOM = 64 };
+static bool list_missing; /* the second pass: only the items never met */
+static bool any_missing;
+
+static void list_item(const char *name, uint64_t count)
+{
+    if (!list_missing)
+        printf("%s %" PRIu64 "\n", name, count);
+    else if (count == 0)
+        printf("missing %s\n", name);
+    any_missing = any_missing || count == 0;
+}
+
+static void list_pair(const char *group, const char *one, const char *other, uint64_t count)
+{
+    char name[NAME_ROOM];
+    snprintf(name, sizeof name, "%s-%s-%s", group, one, other);
+    list_item(name, count);
+}
+
+static void list_numbered(const char *group, size_t type, const char *other, uint64_t count)
+{
+    char name[NAME_ROOM];
+    snprintf(name, sizeof name, "%s-%d-%s", group, (int)type, other);
+    list_item(name, count);
+}
+
+static void list_answers(void)
+{
+    char name[NAME_ROOM];
+    for (size_t i = 0; i < ABORT_CODES; i++) {
+        snprintf(name, sizeof name, "abort-%08" PRIX32, (uint32_t)abort_codes[i]);
+        list_item(name, counts.abort[i]);
+    }
+    for (size_t i = 0; i < NUMBERS; i++) {
+        snprintf(name, sizeof name, "number-%d", (int)i);
+        list_item(name, counts.number[i]);
+    }
+}
+
+static void list_transitions(void)
+{
+    static const uint8_t moves[][2] = {
+        {DISABLED, HOLD}, {HOLD, DISABLED},   {HOLD, ACTIVE},
+        {ACTIVE, HOLD},   {ACTIVE, DISABLED}, {FAULT, DISABLED},
+    };
+    for (size_t i = 0; i < sizeof moves / sizeof moves[0]; i++) {
+        uint8_t from = moves[i][0];
+        uint8_t to = moves[i][1];
+        list_pair("move", state_names[from], state_names[to], counts.move[from][to]);
+    }
+    for (size_t state = 0; state < STATES; state++)
+        list_pair("fault", state_names[state], "FAULT", counts.fault[state]);
+    list_item("held-reset-stays-FAULT", counts.held_reset);
+    for (size_t state = 0; state < STATES; state++)
+        list_pair("word", "moves-nothing-in", state_names[state], counts.move[state][state]);
+}
+
+static void list_ramps_and_bands(void)
+{
+    for (size_t type = 0; type < RAMP_TYPES; type++)
+        for (size_t way = 0; way < WAYS; way++)
+            list_numbered("ramp", type, way_names[way], counts.ramp[type][way]);
+    for (size_t type = 0; type < DEAD_BAND_TYPES; type++)
+        for (size_t band = 0; band < BANDS; band++)
+            list_numbered("dead-band", type, band_names[band], counts.band[type][band]);
+}
+
+static void list_entries(void)
+{
+    char name[NAME_ROOM];
+    for (size_t row = 0; row < OBJECTS; row++) {
+        if (objects[row].access == READ_ONLY)
+            continue;
+        snprintf(name, sizeof name, "write-%04X", (unsigned)objects[row].index);
+        list_item(name, counts.write[row]);
+    }
+    for (size_t row = 0; row < OBJECTS; row++)
+        for (size_t sub = 0; sub <= object_top_sub(&objects[row]); sub++) {
+            snprintf(name, sizeof name, "read-%04X-sub-%d", (unsigned)objects[row].index,
+                     (int)sub);
+            list_item(name, counts.read[row][sub]);
+        }
+}
+
+static void list_all(void)
+{
+    list_answers();
+    list_transitions();
+    list_ramps_and_bands();
+    list_entries();
+    for (size_t i = 0; i < EXAMPLES; i++) {
+        char name[NAME_ROOM];
+        snprintf(name, sizeof name, "example-%s", example_names[i]);
+        list_item(name, counts.example[i]);
+    }
+}
+
+int mode_cover(void)
+{
+    struct run run = run_begin();
+    struct record record;
+    while (record_read(stdin, &record) == RECORD_SIZE) {
+        struct device before = run.device;
+        struct outcome outcome = run_event(&run, &record);
+        struct seen seen = {&record, &outcome, &before, &run.device};
+        count_event(&seen);
+    }
+    list_all();
+    list_missing = true;
+    list_all();
+    return any_missing ? EXIT_MISSING : EXIT_GOOD;
+}

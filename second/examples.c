@@ -1,0 +1,217 @@
+/* `second examples`: the worked examples of document 01 as events, by hand. */
+#include <stdio.h>
+#include <string.h>
+
+#include "modes.h"
+#include "run.h"
+
+/* ---- Events ---- */
+
+static void give(struct record record)
+{
+    record_write(stdout, &record);
+}
+
+static void fresh(void)
+{
+    give((struct record){.kind = EVENT_FRESH});
+}
+
+static void query(void)
+{
+    give((struct record){.kind = EVENT_QUERY});
+}
+
+static void control(uint16_t word)
+{
+    give((struct record){.kind = EVENT_CONTROL, .word = word});
+}
+
+static void fault(uint16_t code)
+{
+    give((struct record){.kind = EVENT_FAULT, .word = code});
+}
+
+/* Single ticks, a line of the transcript for each. */
+static void tick(int times)
+{
+    for (int i = 0; i < times; i++)
+        give((struct record){.kind = EVENT_TICK});
+}
+
+static void jump(uint32_t ticks)
+{
+    give((struct record){.kind = EVENT_JUMP, .number = ticks});
+}
+
+static void sdo(const uint8_t request[SDO_SIZE])
+{
+    struct record record = {.kind = EVENT_SDO, .small = SDO_SIZE, .word = SDO_SIZE};
+    memcpy(record.bytes, request, SDO_SIZE);
+    give(record);
+}
+
+/* A write of the value of an object with the size of its type. */
+static void set(uint16_t index, int64_t value)
+{
+    static const uint8_t commands[] = {0, WRITE_1, WRITE_2, WRITE_3, WRITE_4};
+    const struct object *object = object_find(index);
+    uint32_t data = (uint32_t)value;
+    uint8_t sub = object->form == VARIABLE ? 0 : 1;
+    uint8_t request[SDO_SIZE] = {commands[object_size(object)],
+                                 (uint8_t)index,
+                                 (uint8_t)(index >> 8),
+                                 sub,
+                                 (uint8_t)data,
+                                 (uint8_t)(data >> 8),
+                                 (uint8_t)(data >> 16),
+                                 (uint8_t)(data >> 24)};
+    sdo(request);
+}
+
+/* A fresh device in HOLD, where the hold set point is the input. */
+static void fresh_in_hold(void)
+{
+    fresh();
+    control(1);
+}
+
+/* Ramp type 0 sets the position with one tick. */
+static void place_at(int64_t ir)
+{
+    set(0x6330, 0);
+    set(0x6314, ir);
+    tick(1);
+}
+
+/* ---- The examples in their order ---- */
+
+static void example_targets(void)
+{
+    fresh();
+    set(0x6321, -5000);
+    set(0x6320, 10000);
+    set(0x6322, 131072);
+    set(0x6323, 100);
+    set(0x6324, -50);
+    set(0x6314, -32768);
+    query(); /* target -9950 */
+
+    fresh();
+    set(0x6322, 32768);
+    set(0x6314, -1);
+    query(); /* target 0 */
+    set(0x6314, -3);
+    query(); /* target -1 */
+
+    fresh();
+    set(0x6322, 4294967295);
+    set(0x6314, -16384);
+    query(); /* target -16384 */
+}
+
+static void example_times(void)
+{
+    fresh_in_hold();
+    set(0x6330, 1);
+    set(0x6331, 1000);
+    set(0x6314, 16384);
+    query(); /* 1001 ticks to go */
+    tick(1); /* 1073741 */
+    jump(999);
+    query(); /* 1 to go, from 1073741000 */
+    tick(1); /* 1073741824 */
+
+    fresh_in_hold();
+    set(0x6330, 1);
+    set(0x6331, 3600000);
+    set(0x6314, 16384);
+    tick(2); /* 298, 596 */
+}
+
+static void example_two_times(void)
+{
+    enum { TIME_OF_16_IR = 1024, TIME_OF_32_IR = 512, TICKS = 8 };
+    fresh_in_hold();
+    place_at(100);
+    set(0x6331, TIME_OF_16_IR);
+    set(0x6334, TIME_OF_32_IR);
+    set(0x6330, 2);
+    set(0x6314, -50);
+    query(); /* 8 ticks to go */
+    tick(TICKS);
+    query(); /* at -50 ir */
+
+    /* The same way by jumps: every n from the same start. */
+    for (uint32_t n = 0; n <= TICKS + 1; n++) {
+        place_at(100);
+        set(0x6330, 2);
+        set(0x6314, -50);
+        jump(n);
+    }
+}
+
+static void example_dead_band(void)
+{
+    static const int16_t places[] = {20, 21, -20, -21, -16300};
+    static const uint8_t read_command[SDO_SIZE] = {READ, 0x10, 0x63, 1};
+    fresh_in_hold();
+    set(0x6342, 1);
+    set(0x6345, 20);
+    set(0x6343, 300);
+    set(0x6344, 200);
+    for (size_t i = 0; i < sizeof places / sizeof places[0]; i++) {
+        place_at(places[i]);
+        query(); /* command 0, 321, 0, -221, -16384 */
+        sdo(read_command);
+    }
+}
+
+static void example_states(void)
+{
+    fresh();
+    control(7); /* HOLD */
+    control(7); /* ACTIVE */
+
+    fault(0x1000); /* FAULT with 7 stored */
+    control(8);    /* DISABLED */
+
+    fault(0x2000); /* FAULT with 8 stored */
+    fault(0x3000); /* the first code stays */
+    query();
+    control(8); /* stays */
+    control(0); /* stays */
+    control(8); /* leaves */
+    query();
+
+    fault(0x4000); /* the same once more, the words written by SDO */
+    set(0x6040, 8);
+    set(0x6040, 0);
+    set(0x6040, 8);
+}
+
+static void example_requests(void)
+{
+    static const uint8_t crossed[SDO_SIZE] = {0x2b, 0x20, 0x63, 0x01, 0xff, 0xbf, 0, 0};
+    static const uint8_t equal[SDO_SIZE] = {0x2b, 0x20, 0x63, 0x01, 0x00, 0xc0, 0, 0};
+    static const uint8_t status[SDO_SIZE] = {0x40, 0x41, 0x60, 0x00, 0, 0, 0, 0};
+    fresh();
+    sdo(crossed); /* 80 20 63 01 36 00 09 06 */
+    sdo(status);  /* 4b 41 60 00 08 00 00 00; the abort has changed nothing */
+    sdo(equal);   /* 60 20 63 01 00 00 00 00 */
+    fresh();
+    sdo(status);
+}
+
+/* Ends fresh, so that a made file may follow as if from the start. */
+int mode_examples(void)
+{
+    example_targets();
+    example_times();
+    example_two_times();
+    example_dead_band();
+    example_states();
+    example_requests();
+    fresh();
+    return EXIT_GOOD;
+}

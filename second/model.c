@@ -1,0 +1,658 @@
+/* The device of document 01, in the order of that paper. */
+#include "model.h"
+
+#include <string.h>
+
+static int64_t clamp(int64_t value, int64_t low, int64_t high)
+{
+    if (value < low)
+        return low;
+    return value > high ? high : value;
+}
+
+static int64_t magnitude(int64_t value)
+{
+    return value < 0 ? -value : value;
+}
+
+/* ---- Objects ---- */
+
+#define I16_ALL INT16_MIN, INT16_MAX
+#define U16_ALL 0, UINT16_MAX
+#define U32_ALL 0, UINT32_MAX
+#define TIMES 0, 3600000
+
+/* The rows of the settings stand last and in the order of their tags. */
+const struct object objects[OBJECTS] = {
+    /* index, form, type, access, locked, low, high, fresh, value */
+    {0x6040, VARIABLE, U16, READ_WRITE, false, U16_ALL, 0, CONTROL_WORD},
+    {0x6041, VARIABLE, U16, READ_ONLY, false, U16_ALL, 0, STATUS_WORD},
+    {0x604e, VARIABLE, U16, READ_ONLY, false, U16_ALL, 0, ERROR_CODE},
+    {0x6300, RECORD, I16, READ_WRITE, false, I16_ALL, 0, SET_POINT},
+    {0x6310, RECORD, I16, READ_ONLY, false, I16_ALL, 0, COMMAND},
+    {0x6314, RECORD, I16, READ_WRITE, false, I16_ALL, 0, HOLD_SET_POINT},
+    {0x6320, RECORD, I16, READ_WRITE, false, I16_ALL, FULL_STROKE, UPPER_LIMIT},
+    {0x6321, RECORD, I16, READ_WRITE, false, I16_ALL, -FULL_STROKE, LOWER_LIMIT},
+    {0x6322, VARIABLE, U32, READ_WRITE, false, U32_ALL, 65536, SCALING_FACTOR},
+    {0x6323, RECORD, I16, READ_WRITE, false, I16_ALL, 0, SCALING_OFFSET},
+    {0x6324, RECORD, I16, READ_WRITE, false, I16_ALL, 0, ZERO_CORRECTION},
+    {0x6330, VARIABLE, I8, READ_WRITE, true, 0, 3, 0, RAMP_TYPE},
+    {0x6331, TIME_RECORD, U32, READ_WRITE, true, TIMES, 0, ACCELERATION_ONE},
+    {0x6332, TIME_RECORD, U32, READ_WRITE, true, TIMES, 0, ACCELERATION_POSITIVE},
+    {0x6333, TIME_RECORD, U32, READ_WRITE, true, TIMES, 0, ACCELERATION_NEGATIVE},
+    {0x6334, TIME_RECORD, U32, READ_WRITE, true, TIMES, 0, DECELERATION_ONE},
+    {0x6335, TIME_RECORD, U32, READ_WRITE, true, TIMES, 0, DECELERATION_POSITIVE},
+    {0x6336, TIME_RECORD, U32, READ_WRITE, true, TIMES, 0, DECELERATION_NEGATIVE},
+    {0x6342, VARIABLE, I8, READ_WRITE, true, 0, 1, 0, DEAD_BAND_TYPE},
+    {0x6343, RECORD, I16, READ_WRITE, true, 0, 4096, 0, DEAD_BAND_A_SIDE},
+    {0x6344, RECORD, I16, READ_WRITE, true, 0, 4096, 0, DEAD_BAND_B_SIDE},
+    {0x6345, RECORD, I16, READ_WRITE, true, 0, 16384, 0, DEAD_BAND_THRESHOLD},
+};
+
+enum { FIRST_SETTING_ROW = OBJECTS - SETTINGS };
+
+/* What subs 2 and 3 of a time record say: seconds, milli (-3 as one byte). */
+enum { UNIT_SECOND = 0x03, PREFIX_MILLI = 0xfd };
+
+const struct object *object_find(uint16_t index)
+{
+    for (size_t row = 0; row < OBJECTS; row++)
+        if (objects[row].index == index)
+            return &objects[row];
+    return NULL;
+}
+
+const struct object *object_of_setting(size_t place)
+{
+    return &objects[FIRST_SETTING_ROW + place];
+}
+
+size_t object_size(const struct object *object)
+{
+    switch (object->type) {
+    case I8:
+        return 1;
+    case U32:
+        return 4;
+    default:
+        return 2;
+    }
+}
+
+uint8_t object_top_sub(const struct object *object)
+{
+    switch (object->form) {
+    case VARIABLE:
+        return 0;
+    case RECORD:
+        return 1;
+    default:
+        return 3;
+    }
+}
+
+/* A record's value is at sub 1, a variable's at sub 0. */
+static bool is_value_sub(const struct object *object, uint8_t sub)
+{
+    return sub == (object->form == VARIABLE ? 0 : 1);
+}
+
+static bool in_range(const struct object *object, int64_t value)
+{
+    return value >= object->low && value <= object->high;
+}
+
+/* Low first, as many bytes as the size says. */
+static uint32_t bytes_to_number(const uint8_t *bytes, size_t size)
+{
+    uint32_t number = 0;
+    for (size_t i = size; i > 0; i--)
+        number = (number << 8) | bytes[i - 1];
+    return number;
+}
+
+static void number_to_bytes(uint32_t number, uint8_t *bytes, size_t size)
+{
+    for (size_t i = 0; i < size; i++)
+        bytes[i] = (uint8_t)(number >> (8 * i));
+}
+
+/* The bytes of a value, read in the type of its object. */
+static int64_t typed_value(const struct object *object, const uint8_t *bytes)
+{
+    int64_t value = bytes_to_number(bytes, object_size(object));
+    if (object->type == I8 && value > INT8_MAX)
+        return value - 256;
+    if (object->type == I16 && value > INT16_MAX)
+        return value - 65536;
+    return value;
+}
+
+/* ---- Device states ---- */
+
+enum control_bit {
+    LEAVE_DISABLED = 1,
+    LEAVE_HOLD = 2,
+    MODE_ACTIVE = 4,
+    RESET_FAULT = 8
+};
+
+struct device device_fresh(void)
+{
+    struct device device = {.state = DISABLED};
+    for (size_t place = 0; place < SETTINGS; place++)
+        device.setting[place] = object_of_setting(place)->fresh;
+    return device;
+}
+
+static bool is_idle(const struct device *device)
+{
+    return device->state == DISABLED || device->state == FAULT;
+}
+
+/* Reset is an edge: `before` is the word stored until now. */
+static uint8_t next_state(uint8_t state, uint16_t before, uint16_t word)
+{
+    bool disable = (word & LEAVE_DISABLED) == 0;
+    bool activate = (word & LEAVE_HOLD) != 0 && (word & MODE_ACTIVE) != 0;
+    bool reset = (word & RESET_FAULT) != 0 && (before & RESET_FAULT) == 0;
+
+    switch (state) {
+    case DISABLED:
+        return disable ? DISABLED : HOLD;
+    case HOLD:
+    case ACTIVE:
+        if (disable)
+            return DISABLED;
+        return activate ? ACTIVE : HOLD;
+    default:
+        return reset ? DISABLED : FAULT;
+    }
+}
+
+static void enter(struct device *device, uint8_t state, uint16_t error_code)
+{
+    device->state = state;
+    device->error_code = error_code;
+    if (is_idle(device))
+        device->position = 0;
+}
+
+static void accept_control_word(struct device *device, uint16_t word)
+{
+    uint8_t next = next_state(device->state, device->control_word, word);
+    device->control_word = word;
+    if (next != device->state)
+        enter(device, next, 0);
+}
+
+enum number device_control(struct device *device, uint16_t word)
+{
+    if (!device_sound(device))
+        return STATE_NOT_SOUND;
+    accept_control_word(device, word);
+    return DONE;
+}
+
+enum number device_fault(struct device *device, uint16_t code)
+{
+    if (!device_sound(device))
+        return STATE_NOT_SOUND;
+    if (code == 0)
+        return FAULT_CODE_ZERO;
+    if (device->state != FAULT) /* in FAULT the first code stays */
+        enter(device, FAULT, code);
+    return DONE;
+}
+
+/* ---- From set point to target ---- */
+
+static int64_t target_in_ir(const struct device *device)
+{
+    const int64_t *setting = device->setting;
+    int64_t input = device->state == ACTIVE ? device->set_point : setting[HOLD_SET_POINT];
+    int64_t limited = clamp(input, setting[LOWER_LIMIT], setting[UPPER_LIMIT]);
+    int64_t scaled = limited * setting[SCALING_FACTOR] / 65536; /* C drops the fraction */
+    int64_t corrected = scaled + setting[SCALING_OFFSET] + setting[ZERO_CORRECTION];
+    return clamp(corrected, -FULL_STROKE, FULL_STROKE);
+}
+
+static int64_t target_position(const struct device *device)
+{
+    return target_in_ir(device) * PER_IR;
+}
+
+static uint16_t status_word(const struct device *device)
+{
+    static const uint16_t word_of_state[STATES] = {8, 9, 15, 0};
+    enum { AT_TARGET = 256 };
+    uint16_t word = word_of_state[device->state];
+    if (!is_idle(device) && device->position == target_position(device))
+        word |= AT_TARGET;
+    return word;
+}
+
+/* ---- Ramp ---- */
+
+enum ramp_type { RAMP_NONE, RAMP_ONE_TIME, RAMP_TWO_TIMES, RAMP_FOUR_TIMES };
+
+static enum setting time_of(int64_t type, bool away, bool positive)
+{
+    switch (type) {
+    case RAMP_ONE_TIME:
+        return ACCELERATION_ONE;
+    case RAMP_TWO_TIMES:
+        return away ? ACCELERATION_ONE : DECELERATION_ONE;
+    default:
+        if (positive)
+            return away ? ACCELERATION_POSITIVE : DECELERATION_POSITIVE;
+        return away ? ACCELERATION_NEGATIVE : DECELERATION_NEGATIVE;
+    }
+}
+
+static bool signs_opposite(int64_t a, int64_t b)
+{
+    return (a < 0 && b > 0) || (a > 0 && b < 0);
+}
+
+/* The step on a way that lies on one side of zero: away from zero it is the
+ * acceleration of the side it leads to, else the deceleration of its own. */
+static int64_t step_on_way(const struct device *device, int64_t from, int64_t to)
+{
+    bool away = magnitude(to) > magnitude(from);
+    bool positive = away ? to > 0 : from > 0;
+    enum setting place = time_of(device->setting[RAMP_TYPE], away, positive);
+    int64_t time = device->setting[place];
+    return FULL_POSITION / (time == 0 ? 1 : time);
+}
+
+static int64_t position_after_tick(const struct device *device)
+{
+    int64_t from = device->position;
+    int64_t target = target_position(device);
+    if (device->setting[RAMP_TYPE] == RAMP_NONE)
+        return target;
+
+    /* No tick crosses zero: with signs opposite this way ends there. */
+    int64_t to = signs_opposite(from, target) ? 0 : target;
+    int64_t step = step_on_way(device, from, to);
+    if (magnitude(to - from) <= step)
+        return to;
+    return to > from ? from + step : from - step;
+}
+
+enum number device_tick(struct device *device)
+{
+    if (!device_sound(device))
+        return STATE_NOT_SOUND;
+    if (!is_idle(device))
+        device->position = (int32_t)position_after_tick(device);
+    return DONE;
+}
+
+/* Distance over the step, rounded up, on a way on one side of zero. */
+static int64_t ticks_on_way(const struct device *device, int64_t from, int64_t to)
+{
+    int64_t step = step_on_way(device, from, to);
+    return (magnitude(to - from) + step - 1) / step;
+}
+
+static int64_t ticks_to_go(const struct device *device)
+{
+    int64_t from = device->position;
+    int64_t target = target_position(device);
+    if (is_idle(device) || from == target)
+        return 0;
+    if (device->setting[RAMP_TYPE] == RAMP_NONE)
+        return 1;
+    if (signs_opposite(from, target))
+        return ticks_on_way(device, from, 0) + ticks_on_way(device, 0, target);
+    return ticks_on_way(device, from, target);
+}
+
+/* So many steps from here toward there; the caller knows it stays short of it. */
+static int64_t steps_toward(const struct device *device, int64_t ticks, int64_t from, int64_t to)
+{
+    int64_t way = ticks * step_on_way(device, from, to);
+    return to > from ? from + way : from - way;
+}
+
+/* The closed formula: no loop over the ticks. */
+static int64_t position_after_ticks(const struct device *device, int64_t ticks)
+{
+    int64_t from = device->position;
+    int64_t target = target_position(device);
+    if (is_idle(device))
+        return 0;
+    if (ticks == 0)
+        return from;
+    if (ticks >= ticks_to_go(device))
+        return target;
+    if (!signs_opposite(from, target))
+        return steps_toward(device, ticks, from, target);
+
+    int64_t ticks_to_zero = ticks_on_way(device, from, 0);
+    if (ticks < ticks_to_zero)
+        return steps_toward(device, ticks, from, 0);
+    return steps_toward(device, ticks - ticks_to_zero, 0, target);
+}
+
+enum number device_jump(struct device *device, uint32_t ticks)
+{
+    if (!device_sound(device))
+        return STATE_NOT_SOUND;
+    device->position = (int32_t)position_after_ticks(device, ticks);
+    return DONE;
+}
+
+/* ---- Command ---- */
+
+enum dead_band_type { DEAD_BAND_NONE, DEAD_BAND_JUMP };
+
+static int64_t with_dead_band(const struct device *device, int64_t r)
+{
+    const int64_t *setting = device->setting;
+    if (setting[DEAD_BAND_TYPE] == DEAD_BAND_NONE)
+        return r;
+    if (r > setting[DEAD_BAND_THRESHOLD])
+        return r + setting[DEAD_BAND_A_SIDE];
+    if (r < -setting[DEAD_BAND_THRESHOLD])
+        return r - setting[DEAD_BAND_B_SIDE];
+    return 0;
+}
+
+static int64_t command(const struct device *device)
+{
+    if (is_idle(device))
+        return 0;
+    int64_t r = device->position / PER_IR; /* toward zero */
+    return clamp(with_dead_band(device, r), -FULL_STROKE, FULL_STROKE);
+}
+
+/* ---- SDO ---- */
+
+static int64_t shown_value(const struct device *device, const struct object *object)
+{
+    switch (object->value) {
+    case CONTROL_WORD:
+        return device->control_word;
+    case STATUS_WORD:
+        return status_word(device);
+    case ERROR_CODE:
+        return device->error_code;
+    case SET_POINT:
+        return device->set_point;
+    case COMMAND:
+        return command(device);
+    default:
+        return device->setting[object->value];
+    }
+}
+
+static void take_value(struct device *device, const struct object *object, int64_t value)
+{
+    switch (object->value) {
+    case CONTROL_WORD:
+        accept_control_word(device, (uint16_t)value);
+        break;
+    case SET_POINT:
+        device->set_point = (int16_t)value;
+        break;
+    default:
+        device->setting[object->value] = value;
+    }
+}
+
+/* What the one-byte entries beside the value say. */
+static uint8_t shown_byte(const struct object *object, uint8_t sub)
+{
+    switch (sub) {
+    case 0:
+        return object_top_sub(object);
+    case 2:
+        return UNIT_SECOND;
+    default:
+        return PREFIX_MILLI;
+    }
+}
+
+static void read_entry(const struct device *device, const struct object *object, uint8_t sub,
+                       uint8_t *reply)
+{
+    size_t size = 1;
+    uint32_t value = shown_byte(object, sub);
+    if (is_value_sub(object, sub)) {
+        size = object_size(object);
+        value = (uint32_t)shown_value(device, object);
+    }
+    reply[0] = size == 1 ? READ_1 : size == 2 ? READ_2 : READ_4;
+    number_to_bytes(value, &reply[4], size);
+}
+
+static enum abort_code range_abort(const struct object *object, int64_t value)
+{
+    if (in_range(object, value))
+        return NO_ABORT;
+    if (object->value == RAMP_TYPE || object->value == DEAD_BAND_TYPE)
+        return ABORT_VALUE;
+    return value > object->high ? ABORT_TOO_HIGH : ABORT_TOO_LOW;
+}
+
+static bool crosses_limits(const struct device *device, const struct object *object, int64_t value)
+{
+    if (object->value == UPPER_LIMIT)
+        return value < device->setting[LOWER_LIMIT];
+    if (object->value == LOWER_LIMIT)
+        return device->setting[UPPER_LIMIT] < value;
+    return false;
+}
+
+/* The size that a write command announces; 0 for every other command. */
+static size_t write_size(uint8_t command_byte)
+{
+    switch (command_byte) {
+    case WRITE_1:
+        return 1;
+    case WRITE_2:
+        return 2;
+    case WRITE_3:
+        return 3;
+    case WRITE_4:
+        return 4;
+    default:
+        return 0;
+    }
+}
+
+/* Aborts 4 to 8 in their order, then the write itself. */
+static enum abort_code write_entry(struct device *device, const struct object *object, uint8_t sub,
+                                   size_t size, const uint8_t *data)
+{
+    if (object->access == READ_ONLY || !is_value_sub(object, sub))
+        return ABORT_READ_ONLY;
+    if (size != object_size(object))
+        return ABORT_SIZE;
+    int64_t value = typed_value(object, data);
+    enum abort_code code = range_abort(object, value);
+    if (code != NO_ABORT)
+        return code;
+    if (crosses_limits(device, object, value))
+        return ABORT_LIMITS;
+    if (object->locked && device->state == ACTIVE)
+        return ABORT_LOCKED;
+    take_value(device, object, value);
+    return NO_ABORT;
+}
+
+/* Aborts 1 to 3, then the read or the write; fills all of the reply but an abort. */
+static enum abort_code serve(struct device *device, const uint8_t *request, uint8_t *reply)
+{
+    uint8_t command_byte = request[0];
+    uint8_t sub = request[3];
+    size_t size = write_size(command_byte);
+    if (command_byte != READ && size == 0)
+        return ABORT_COMMAND;
+    const struct object *object = object_find((uint16_t)bytes_to_number(&request[1], 2));
+    if (object == NULL)
+        return ABORT_NO_OBJECT;
+    if (sub > object_top_sub(object))
+        return ABORT_NO_SUB_INDEX;
+    if (command_byte == READ) {
+        read_entry(device, object, sub, reply);
+        return NO_ABORT;
+    }
+    reply[0] = WRITTEN;
+    return write_entry(device, object, sub, size, &request[4]);
+}
+
+enum number device_sdo(struct device *device, const uint8_t *request, size_t request_size,
+                       uint8_t *reply, size_t room)
+{
+    enum { TOP_THREE_BITS = 0xe0, CLIENT_ABORT = 0x80 };
+    if (!device_sound(device))
+        return STATE_NOT_SOUND;
+    if (request_size != SDO_SIZE)
+        return REQUEST_NOT_EIGHT;
+    if (room < SDO_SIZE)
+        return REPLY_ROOM_UNDER_EIGHT;
+    if ((request[0] & TOP_THREE_BITS) == CLIENT_ABORT)
+        return NO_REPLY_DUE;
+
+    uint8_t built[SDO_SIZE] = {0, request[1], request[2], request[3], 0, 0, 0, 0};
+    enum abort_code code = serve(device, request, built);
+    if (code != NO_ABORT) {
+        built[0] = ABORT;
+        number_to_bytes((uint32_t)code, &built[4], 4);
+    }
+    memcpy(reply, built, SDO_SIZE);
+    return DONE;
+}
+
+/* ---- Stored image ---- */
+
+enum number device_store(const struct device *device, uint8_t *image, size_t room)
+{
+    if (!device_sound(device))
+        return STATE_NOT_SOUND;
+    if (room < IMAGE_SIZE)
+        return IMAGE_ROOM_UNDER_97;
+    uint8_t *field = image;
+    for (size_t place = 0; place < SETTINGS; place++) {
+        size_t size = object_size(object_of_setting(place));
+        field[0] = (uint8_t)(place + 1);
+        number_to_bytes((uint32_t)size, &field[1], 2);
+        number_to_bytes((uint32_t)device->setting[place], &field[FIELD_HEAD], size);
+        field += FIELD_HEAD + size;
+    }
+    return DONE;
+}
+
+/* Whether the image has each tag once, ascending, with the length of its type. */
+static bool is_full_image(const uint8_t *image, size_t size)
+{
+    if (size != IMAGE_SIZE)
+        return false;
+    const uint8_t *field = image;
+    for (size_t place = 0; place < SETTINGS; place++) {
+        size_t length = object_size(object_of_setting(place));
+        if (field[0] != place + 1 || bytes_to_number(&field[1], 2) != length)
+            return false;
+        field += FIELD_HEAD + length;
+    }
+    return true;
+}
+
+static bool settings_sound(const int64_t *setting)
+{
+    for (size_t place = 0; place < SETTINGS; place++)
+        if (!in_range(object_of_setting(place), setting[place]))
+            return false;
+    return setting[LOWER_LIMIT] <= setting[UPPER_LIMIT];
+}
+
+enum number device_load(struct device *device, const uint8_t *image, size_t size)
+{
+    if (!device_sound(device))
+        return STATE_NOT_SOUND;
+    if (device->state != DISABLED)
+        return LOAD_OUTSIDE_DISABLED;
+    if (!is_full_image(image, size))
+        return NOT_A_FULL_IMAGE;
+
+    int64_t loaded[SETTINGS];
+    const uint8_t *field = image;
+    for (size_t place = 0; place < SETTINGS; place++) {
+        const struct object *object = object_of_setting(place);
+        loaded[place] = typed_value(object, &field[FIELD_HEAD]);
+        field += FIELD_HEAD + object_size(object);
+    }
+    if (!settings_sound(loaded))
+        return IMAGE_VALUE_OUT_OF_RANGE;
+    memcpy(device->setting, loaded, sizeof loaded);
+    return DONE;
+}
+
+struct part image_find(uint8_t tag, const uint8_t *image, size_t size)
+{
+    size_t at = 0;
+    while (at < size) {
+        if (size - at < FIELD_HEAD)
+            return (struct part){NOT_A_FULL_IMAGE, 0, 0};
+        size_t length = bytes_to_number(&image[at + 1], 2);
+        size_t start = at + FIELD_HEAD;
+        if (size - start < length)
+            return (struct part){NOT_A_FULL_IMAGE, 0, 0};
+        if (image[at] == tag)
+            return (struct part){DONE, start, length};
+        at = start + length;
+    }
+    return (struct part){TAG_NOT_FOUND, 0, 0};
+}
+
+/* ---- Numbers handed back ---- */
+
+bool device_sound(const struct device *device)
+{
+    if (device->state >= STATES || !settings_sound(device->setting))
+        return false;
+    if (device->position < -FULL_POSITION || device->position > FULL_POSITION)
+        return false;
+    if (is_idle(device) && device->position != 0)
+        return false;
+    return (device->error_code != 0) == (device->state == FAULT);
+}
+
+bool device_equal(const struct device *a, const struct device *b)
+{
+    return a->state == b->state && a->control_word == b->control_word &&
+           a->error_code == b->error_code && a->set_point == b->set_point &&
+           a->position == b->position &&
+           memcmp(a->setting, b->setting, sizeof a->setting) == 0;
+}
+
+static int64_t asked_value(const struct device *device, enum query query)
+{
+    switch (query) {
+    case QUERY_STATE:
+        return device->state;
+    case QUERY_STATUS:
+        return status_word(device);
+    case QUERY_ERROR:
+        return device->error_code;
+    case QUERY_POSITION:
+        return device->position;
+    case QUERY_TARGET:
+        return target_in_ir(device);
+    case QUERY_COMMAND:
+        return command(device);
+    default:
+        return ticks_to_go(device);
+    }
+}
+
+struct answer device_query(const struct device *device, enum query query)
+{
+    if (!device_sound(device))
+        return (struct answer){STATE_NOT_SOUND, 0};
+    return (struct answer){DONE, asked_value(device, query)};
+}

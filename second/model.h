@@ -1,0 +1,164 @@
+/* The device of document 01: what the other files may know of it. */
+#ifndef SECOND_MODEL_H
+#define SECOND_MODEL_H
+
+#include <stdbool.h>
+#include <stddef.h>
+#include <stdint.h>
+
+/* Numbers that stay fixed. */
+enum {
+    FULL_STROKE = 16384,       /* in ir */
+    PER_IR = 65536,            /* units of the ramp position in one ir */
+    FULL_POSITION = 1073741824 /* full stroke as a ramp position */
+};
+
+enum device_state { DISABLED, HOLD, ACTIVE, FAULT, STATES };
+
+/* The 17 stored settings by place. The tag of a setting is its place plus one. */
+enum setting {
+    HOLD_SET_POINT,
+    UPPER_LIMIT,
+    LOWER_LIMIT,
+    SCALING_FACTOR,
+    SCALING_OFFSET,
+    ZERO_CORRECTION,
+    RAMP_TYPE,
+    ACCELERATION_ONE,
+    ACCELERATION_POSITIVE,
+    ACCELERATION_NEGATIVE,
+    DECELERATION_ONE,
+    DECELERATION_POSITIVE,
+    DECELERATION_NEGATIVE,
+    DEAD_BAND_TYPE,
+    DEAD_BAND_A_SIDE,
+    DEAD_BAND_B_SIDE,
+    DEAD_BAND_THRESHOLD,
+    SETTINGS
+};
+
+/* Settings are 64 bits wide, so that one type holds I8, I16 and U32 alike and
+ * a value outside its range can be written down and found unsound. */
+struct device {
+    uint8_t state;
+    uint16_t control_word;
+    uint16_t error_code;
+    int16_t set_point;
+    int32_t position;
+    int64_t setting[SETTINGS];
+};
+
+/* Numbers handed back. */
+enum number {
+    DONE,
+    STATE_NOT_SOUND,
+    REQUEST_NOT_EIGHT,
+    REPLY_ROOM_UNDER_EIGHT,
+    NO_REPLY_DUE,
+    FAULT_CODE_ZERO,
+    IMAGE_ROOM_UNDER_97,
+    NOT_A_FULL_IMAGE, /* of a search: a field cut short */
+    IMAGE_VALUE_OUT_OF_RANGE,
+    LOAD_OUTSIDE_DISABLED,
+    TAG_NOT_FOUND,
+    NUMBERS
+};
+
+/* Objects. */
+enum object_form { VARIABLE, RECORD, TIME_RECORD };
+enum object_type { I8, I16, U16, U32 };
+enum object_access { READ_ONLY, READ_WRITE };
+
+/* What an object shows: one of the settings, or one of these. */
+enum { CONTROL_WORD = SETTINGS, STATUS_WORD, ERROR_CODE, SET_POINT, COMMAND };
+
+struct object {
+    uint16_t index;
+    uint8_t form;
+    uint8_t type;
+    uint8_t access;
+    bool locked; /* not to be written while ACTIVE */
+    int64_t low;
+    int64_t high;
+    int64_t fresh;
+    uint8_t value; /* which value it shows */
+};
+
+enum { OBJECTS = 22 };
+extern const struct object objects[OBJECTS];
+
+const struct object *object_find(uint16_t index);
+const struct object *object_of_setting(size_t place);
+size_t object_size(const struct object *object);   /* of its value, in bytes */
+uint8_t object_top_sub(const struct object *object);
+
+/* SDO. */
+enum { SDO_SIZE = 8 };
+enum sdo_command {
+    READ = 0x40,
+    WRITE_1 = 0x2f,
+    WRITE_2 = 0x2b,
+    WRITE_3 = 0x27,
+    WRITE_4 = 0x23,
+    WRITTEN = 0x60,
+    READ_1 = 0x4f,
+    READ_2 = 0x4b,
+    READ_4 = 0x43,
+    ABORT = 0x80
+};
+enum abort_code {
+    NO_ABORT = 0,
+    ABORT_COMMAND = 0x05040001,
+    ABORT_NO_OBJECT = 0x06020000,
+    ABORT_NO_SUB_INDEX = 0x06090011,
+    ABORT_READ_ONLY = 0x06010002,
+    ABORT_SIZE = 0x06070010,
+    ABORT_VALUE = 0x06090030,
+    ABORT_TOO_HIGH = 0x06090031,
+    ABORT_TOO_LOW = 0x06090032,
+    ABORT_LIMITS = 0x06090036,
+    ABORT_LOCKED = 0x08000022
+};
+
+/* Stored image. */
+enum { IMAGE_SIZE = 97, FIELD_HEAD = 3 };
+struct part {
+    enum number number;
+    size_t start;
+    size_t size;
+};
+
+/* Queries. */
+enum query {
+    QUERY_STATE,
+    QUERY_STATUS,
+    QUERY_ERROR,
+    QUERY_POSITION,
+    QUERY_TARGET,
+    QUERY_COMMAND,
+    QUERY_TICKS_TO_GO,
+    QUERIES
+};
+struct answer {
+    enum number number;
+    int64_t value;
+};
+
+struct device device_fresh(void);
+bool device_sound(const struct device *device);
+bool device_equal(const struct device *a, const struct device *b);
+
+/* Each of these changes the device and the buffer only when it gives DONE. */
+enum number device_control(struct device *device, uint16_t word);
+enum number device_fault(struct device *device, uint16_t code);
+enum number device_tick(struct device *device);
+enum number device_jump(struct device *device, uint32_t ticks);
+enum number device_sdo(struct device *device, const uint8_t *request, size_t request_size,
+                       uint8_t *reply, size_t room);
+enum number device_store(const struct device *device, uint8_t *image, size_t room);
+enum number device_load(struct device *device, const uint8_t *image, size_t size);
+
+struct part image_find(uint8_t tag, const uint8_t *image, size_t size);
+struct answer device_query(const struct device *device, enum query query);
+
+#endif

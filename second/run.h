@@ -1,0 +1,83 @@
+/* The event records of README and a run of them. */
+#ifndef SECOND_RUN_H
+#define SECOND_RUN_H
+
+#include <stdio.h>
+
+#include "model.h"
+
+enum { RECORD_SIZE = 16 };
+
+enum event_kind {
+    EVENT_FRESH,
+    EVENT_SDO,
+    EVENT_CONTROL,
+    EVENT_FAULT,
+    EVENT_TICK,
+    EVENT_JUMP,
+    EVENT_STORE,
+    EVENT_LOAD,
+    EVENT_FIND,
+    EVENT_QUERY,
+    EVENT_UNSOUND,
+    EVENT_TICKS,
+    EVENT_KINDS
+};
+
+/* What `small` of a load says. */
+enum load_kind { LOAD_AS_IT_IS, LOAD_CUT, LOAD_BYTE_REPLACED, LOAD_BYTE_MORE };
+
+/* What `small` of an unsound event says, and what its `number` says. */
+enum unsound_kind {
+    UNSOUND_STATE,
+    UNSOUND_ERROR_CODE,
+    UNSOUND_POSITION,
+    UNSOUND_SETTING,
+    UNSOUND_LIMITS,
+    UNSOUND_POSITION_BY_STATE,
+    UNSOUND_KINDS
+};
+enum unsound_call {
+    CALL_SDO,
+    CALL_CONTROL,
+    CALL_FAULT,
+    CALL_TICK,
+    CALL_JUMP,
+    CALL_STORE,
+    CALL_LOAD,
+    CALL_QUERY,
+    CALLS
+};
+
+enum { SDO_ROOM_MOST = 12, STORE_ROOM_MOST = 100, ROOM_FILL = 0xaa };
+
+struct record {
+    uint8_t kind;
+    uint8_t small;
+    uint16_t word;
+    uint32_t number;
+    uint8_t bytes[SDO_SIZE];
+};
+
+struct run {
+    struct device device;
+    uint8_t image[IMAGE_SIZE];
+};
+
+/* What an event gave; which members count depends on the kind. */
+struct outcome {
+    uint8_t number;
+    size_t place;      /* of a find */
+    size_t byte_count; /* of the room, or of the found part */
+    uint8_t bytes[STORE_ROOM_MOST];
+    struct answer query[QUERIES];
+};
+
+struct run run_begin(void);
+struct outcome run_event(struct run *run, const struct record *record);
+
+/* Reads one record; gives the number of bytes met, RECORD_SIZE for a whole one. */
+size_t record_read(FILE *file, struct record *record);
+void record_write(FILE *file, const struct record *record);
+
+#endif
