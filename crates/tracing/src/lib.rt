@@ -37,7 +37,11 @@ pub struct Traced {
 
 const RECORD_LENGTH: usize = 16;
 
-// Every byte of a room before the call.
+// The most room that a call is lent, and every byte of it before the call.
+const REPLY_ROOM: usize = 12;
+
+const IMAGE_ROOM: usize = 100;
+
 const UNTOUCHED: u8 = 0xAA;
 
 // The kinds of event.
@@ -84,7 +88,7 @@ fn with_device(run: Run, device: Device) -> Run {
     Run { device, image }
 }
 
-// The first n bytes, or all where there are no more.
+// The first n bytes, or all where there are no more. The part is `0..n`, and not `..n`, since its length is then known with no proof.
 fn first(bytes: &[u8], n: usize) -> &[u8] {
     if n < bytes.len() { &bytes[0..n] } else { bytes }
 }
@@ -111,17 +115,17 @@ fn put_result(text: &mut [u8], at: usize, name: &[u8], number: u8) -> usize {
     put_number(text, at, number as u64)
 }
 
-fn put_answer(text: &mut [u8], at: usize, reading: Reading) -> usize {
+fn put_query(text: &mut [u8], at: usize, reading: Reading) -> usize {
     let at = put(text, at, b' ');
     put_value(text, at, reading.value)
 }
 
-// The end of a line: the device after the event.
+// The end of a line: the device after the event. A device of the run is always sound, so that each query has a value.
 fn put_device(text: &mut [u8], at: usize, device: Device) -> usize {
     let at = put_all(text, at, b" |");
-    let at = put_answer(text, at, rainsheave::state(device));
-    let at = put_answer(text, at, rainsheave::status(device));
-    let at = put_answer(text, at, rainsheave::position(device));
+    let at = put_query(text, at, rainsheave::state(device));
+    let at = put_query(text, at, rainsheave::status(device));
+    let at = put_query(text, at, rainsheave::position(device));
     put(text, at, b'\n')
 }
 
@@ -158,6 +162,7 @@ fn trace_fresh(run: Run, text: &mut [u8], at: usize) -> Traced {
     Traced { run, end }
 }
 
+// An SDO request, with the room for its reply.
 fn trace_sdo_in(run: Run, request: &[u8], room: &mut [u8], text: &mut [u8], at: usize) -> Traced {
     let device = run.device;
     let answer = rainsheave::sdo(device, request, room);
@@ -171,13 +176,13 @@ fn trace_sdo_in(run: Run, request: &[u8], room: &mut [u8], text: &mut [u8], at: 
 
 fn trace_sdo(run: Run, event: Event, text: &mut [u8], at: usize) -> Traced {
     let bytes = event.bytes;
-    let mut room = [UNTOUCHED; 12];
+    let mut room = [UNTOUCHED; REPLY_ROOM];
     let request = first(&bytes, event.small as usize);
     let reply = first_mut(&mut room, event.word as usize);
     trace_sdo_in(run, request, reply, text, at)
 }
 
-// So many single ticks. The report is that of the last.
+// So many single ticks. The report is that of the last; where there is none, nothing is refused.
 fn ticks(device: Device, n: u16) -> Change {
     let report = Report::Done;
     let mut change = Change { device, report };
@@ -213,6 +218,7 @@ fn stored(run: Run, number: u8, room: &[u8]) -> Run {
     }
 }
 
+// A store, with its room.
 fn trace_store_in(run: Run, room: &mut [u8], text: &mut [u8], at: usize) -> Traced {
     let device = run.device;
     let number = number_of(rainsheave::store(device, room));
@@ -223,7 +229,7 @@ fn trace_store_in(run: Run, room: &mut [u8], text: &mut [u8], at: usize) -> Trac
 }
 
 fn trace_store(run: Run, event: Event, text: &mut [u8], at: usize) -> Traced {
-    let mut room = [UNTOUCHED; 100];
+    let mut room = [UNTOUCHED; IMAGE_ROOM];
     let room = first_mut(&mut room, event.word as usize);
     trace_store_in(run, room, text, at)
 }
@@ -239,40 +245,28 @@ fn longer(image: [u8; 97], last: u8) -> [u8; 98] {
     bytes
 }
 
-// The image that is loaded, with room for one byte more than is in it.
-fn altered(image: [u8; 97], event: Event) -> [u8; 98] {
-    let byte = coding::byte_of(event.number, 0);
-    let place = event.word as usize % IMAGE_LENGTH;
-    let mut bytes = longer(image, byte);
-    if event.small == REPLACED {
-        bytes[place] = byte;
-    }
+fn replaced(image: [u8; 97], word: u16, byte: u8) -> [u8; 97] {
+    let place = word as usize % IMAGE_LENGTH;
+    let mut bytes = image;
+    bytes[place] = byte;
     bytes
 }
 
-fn least(a: usize, b: usize) -> usize {
-    if a < b { a } else { b }
-}
-
-// How much of it is loaded.
-fn altered_length(small: u8, word: u16) -> usize {
+// A load of the image, altered for this call alone.
+fn load(run: Run, event: Event) -> Change {
+    let device = run.device;
+    let image = run.image;
+    let byte = coding::byte_of(event.number, 0);
+    let small = event.small;
     match small {
-        CUT => least(word as usize, IMAGE_LENGTH),
-        LONGER => IMAGE_LENGTH + 1,
-        _ => IMAGE_LENGTH,
+        CUT => rainsheave::load(device, first(&image, event.word as usize)),
+        REPLACED => rainsheave::load(device, &replaced(image, event.word, byte)),
+        LONGER => rainsheave::load(device, &longer(image, byte)),
+        _ => rainsheave::load(device, &image),
     }
 }
 
-fn trace_load(run: Run, event: Event, text: &mut [u8], at: usize) -> Traced {
-    let device = run.device;
-    let image = run.image;
-    let bytes = altered(image, event);
-    let length = altered_length(event.small, event.word);
-    let change = rainsheave::load(device, first(&bytes, length));
-    trace_change(run, change, text, at, b"load")
-}
-
-// Where the first field with a tag ends: after the fewest bytes in which it is found.
+// Where the first field with a tag ends: the fewest bytes of the image in which it is found.
 fn field_end(image: &[u8], tag: u8) -> usize {
     let mut end = 0;
     while end < image.len() {
@@ -284,7 +278,7 @@ fn field_end(image: &[u8], tag: u8) -> usize {
     end
 }
 
-// Where a part of so many bytes begins, which ends at the end of its field. No code sees where a slice lies.
+// Where a part of so many bytes begins in the image. The program cannot ask where a slice lies, but the part ends where its field ends.
 fn part_begin(image: &[u8], tag: u8, length: usize) -> usize {
     let end = field_end(image, tag);
     if 0 < length && length <= end {
@@ -309,7 +303,7 @@ fn trace_find(run: Run, event: Event, text: &mut [u8], at: usize) -> Traced {
     Traced { run, end }
 }
 
-// A query's number and value.
+// A query's number and its value.
 fn put_reading(text: &mut [u8], at: usize, reading: Reading) -> usize {
     let at = put_result(text, at, b"", reading.number);
     let at = put(text, at, b'/');
@@ -352,41 +346,25 @@ fn trace_unknown(run: Run, kind: u8, text: &mut [u8], at: usize) -> Traced {
     Traced { run, end }
 }
 
-// The run after an event, and the line up to the device.
+// The run after an event, and its line up to the device.
 fn trace_kind(run: Run, event: Event, text: &mut [u8], at: usize) -> Traced {
     let device = run.device;
     let kind = event.kind;
+    let word = event.word;
+    let number = event.number;
     match kind {
         FRESH => trace_fresh(run, text, at),
         SDO => trace_sdo(run, event, text, at),
-        CONTROL => trace_change(
-            run,
-            rainsheave::control(device, event.word),
-            text,
-            at,
-            b"control",
-        ),
-        FAULT => trace_change(
-            run,
-            rainsheave::fault(device, event.word),
-            text,
-            at,
-            b"fault",
-        ),
+        CONTROL => trace_change(run, rainsheave::control(device, word), text, at, b"control"),
+        FAULT => trace_change(run, rainsheave::fault(device, word), text, at, b"fault"),
         TICK => trace_change(run, rainsheave::tick(device), text, at, b"tick"),
-        JUMP => trace_change(
-            run,
-            rainsheave::jump(device, event.number),
-            text,
-            at,
-            b"jump",
-        ),
+        JUMP => trace_change(run, rainsheave::jump(device, number), text, at, b"jump"),
         STORE => trace_store(run, event, text, at),
-        LOAD => trace_load(run, event, text, at),
+        LOAD => trace_change(run, load(run, event), text, at, b"load"),
         FIND => trace_find(run, event, text, at),
         QUERY => trace_query(run, text, at),
         UNSOUND => trace_unsound(run, event, text, at),
-        TICKS => trace_change(run, ticks(device, event.word), text, at, b"ticks"),
+        TICKS => trace_change(run, ticks(device, word), text, at, b"ticks"),
         _ => trace_unknown(run, kind, text, at),
     }
 }

@@ -1,4 +1,4 @@
--- Nothing has to hold from block to block. The measure is how many blocks are left to count.
+-- Nothing has to hold from block to block. Each turn leaves fewer blocks to count.
 use Prim.Native.Nat.{_-_, _<_}
 use native.Mathlib.Omega.{arith}
 use borrow.Author.Needs.{needs}
@@ -7,10 +7,10 @@ use Rattle.trace.proofs.main.Statement.{statement}
 use Rattle.trace.proofs.main.Tie as tie
 
 abbrev Inv-loop : tie.InvT-loop
-Inv-loop block₀ left₀ block left = Unit {0}
+Inv-loop progress₀ left₀ progress left = Unit {0}
 
 abbrev μ-loop : tie.MeasureT-loop
-μ-loop block₀ left₀ block left = left
+μ-loop progress₀ left₀ progress left = left
 
 pub main-spec : {M : Type 1} → statement M
 main-spec =

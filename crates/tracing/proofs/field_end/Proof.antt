@@ -1,4 +1,4 @@
--- The field does not end before the place that the loop has come to.
+-- The loop stays within the image, and each turn leaves less of it.
 use Prim.Native.Nat.{_-_, _≤_}
 use lib.ListN.{length}
 use borrow.Author.Needs.{needs}

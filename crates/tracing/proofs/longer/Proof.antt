@@ -1,4 +1,4 @@
--- The loop has copied the first i bytes.
+-- The loop stays within the image, and the bytes keep their length.
 use Prim.Native.Nat.{_-_, _≤_}
 use mathlib.Core.Path.{_≡_}
 use lib.ListN.{length}

@@ -1,4 +1,4 @@
--- The loop has made the first i ticks.
+-- Each turn leaves fewer ticks.
 use Prim.Native.Nat.{_-_, _≤_}
 use borrow.Author.Needs.{needs}
 use Rattle.tracing.proofs.ticks.Statement.{statement}

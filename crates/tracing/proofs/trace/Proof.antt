@@ -1,4 +1,4 @@
--- The loop has passed whole records alone.
+-- The loop passes whole records alone, so it stays within them; the text keeps its length.
 use Prim.Native.Nat.{_-_, _≤_}
 use mathlib.Core.Path.{_≡_}
 use lib.ListN.{length}

@@ -1,4 +1,4 @@
--- The loop has put the first i bytes.
+-- The loop stays within the bytes, and the text keeps its length.
 use Prim.Native.Nat.{_-_, _≤_}
 use mathlib.Core.Path.{_≡_}
 use borrow.Author.Needs.{needs}

@@ -1,4 +1,4 @@
--- Each branch casts a number that is not below zero and fits: -1 - value, which is less than full 63 bits, or the value.
+-- Each branch casts a number that is not below zero and fits: the value, or -1 - value, to which one more fits too.
 use mathlib.Core.Path.{_≡_}
 use mathlib.Core.Bool.{true}
 use native.Mathlib.Omega.{arith}
@@ -17,13 +17,16 @@ module _ (c : tie.Then1) where
   abbrev value : ℤ
   value = c .before .args .value
 
+  abbrev rest : ℤ
+  rest = negsuc 0 -ℤ value
+
   below : ltZ value (pos 0) ≡ true
   below = simp (toZ-ofZ (c .before .fits .value)) at (c .if1 .taken)
 
-  fits : SFits w64 (negsuc 0 -ℤ value)
+  fits : SFits w64 rest
   fits = omega (arith, ints, below, c .before .fits .value .sfits, sub-nat (negsuc 0) value, mag-nat value)
 
-  above : pos 0 ≤ℤ (negsuc 0 -ℤ value)
+  above : pos 0 ≤ℤ rest
   above = omega (arith, ints, below, sub-nat (negsuc 0) value)
 
 pub size-spec : {M : Type 1} → statement M
@@ -32,7 +35,7 @@ size-spec =
     (tie.spec
     (λ c. let f = fits c in search needs)
     (λ c. simp (toZ-ofZ (c .before .fits .value), toZ-ofZ (fits c)) (unsigned (fits c) (above c)))
-    (λ c. simp (toZ-ofZ (c .before .fits .value), toZ-ofZ (fits c)) (omega (arith, fits c .sfits, mag-nat (negsuc 0 -ℤ value c), abs-nat (negsuc 0 -ℤ value c))))
+    (λ c. simp (toZ-ofZ (c .before .fits .value), toZ-ofZ (fits c)) (omega (arith, fits c .sfits, mag-nat (rest c), abs-nat (rest c))))
     (λ c.
     let f = c .before .fits .value in
     let above = simp (toZ-ofZ f) at (c .if1 .left) in
