@@ -1,6 +1,7 @@
 -- Where the numbers of the value chain lie, and on what the target depends.
 use mathlib.Core.Bool.{Bool, false}
 use mathlib.Core.Path.{_≡_}
+use Prim.Native.Nat.{ℕ, _<_}
 use native.Mathlib.Omega.{arith}
 use lib.IntN.{ℤ, pos}
 use lib.Signed.{ltZ, _≤ℤ_, leZ-yes}
@@ -12,16 +13,19 @@ use Rattle.integers.specs.Range.{Within}
 use Rattle.integers.proofs.Linear.{ints}
 use Rattle.integers.proofs.Cases.{by-test}
 use Rattle.integers.proofs.Range.{wider, fits, over, times, size, exactly}
-use Rattle.objects.specs.Table.{objects}
+use Rattle.objects.specs.Numbers.{FULL-STROKE, FULL-POSITION, PARTS}
+use Rattle.objects.specs.Places.{SETTINGS, SET-POINT, HOLD-SET-POINT, UPPER-LIMIT, LOWER-LIMIT, SCALING-FACTOR, SCALING-OFFSET, ZERO-CORRECTION, RAMP-TYPE, ACCELERATION, ACCELERATION-POSITIVE, ACCELERATION-NEGATIVE, DECELERATION, DECELERATION-POSITIVE, DECELERATION-NEGATIVE, A-SIDE, B-SIDE, THRESHOLD}
+use Rattle.objects.specs.Table.{objects, InRange}
 use Rattle.ramp.specs.declared.Ramp.{Ramp}
 use Rattle.ramp.specs.Ramp.{Way}
-use Rattle.block.specs.Target.{setting, inputOf, clampTo, clampToStroke, scaledBy, targetFrom, targetOf, targetPosition}
+use Rattle.block.specs.Block.{setting}
+use Rattle.block.specs.Target.{inputOf, clampTo, clampToStroke, scaledBy, targetFrom, targetOf, targetPosition}
 use Rattle.block.specs.Command.{wholeOf, commandOf}
 use Rattle.block.specs.Sound.{Sound}
 use Rattle.block.specs.Travel.{rampOf}
-use Rattle.block.specs.Asked.{Integer16, Scaling, Chain, Band}
+use Rattle.block.specs.Asked.{Scaling, Chain, Band}
 use Rattle.block.specs.declared.Block.{Block}
-use Rattle.block.proofs.Sound.{sound-block}
+use Rattle.block.proofs.Sound.{block-parts}
 
 -- ---- clamping and scaling
 
@@ -37,21 +41,21 @@ clamp-within x {lower} {upper} h =
     by-test (Within lower upper) (ltZ x lower) (λ e. omega (arith, ints))
     (λ e. by-test (Within lower upper) (ltZ upper x) (λ f. omega (arith, ints)) (λ f. omega (arith, ints)))
 
-pub stroke-within : (x : ℤ) → Within (minus 16384) (pos 16384) (clampToStroke x)
+pub stroke-within : (x : ℤ) → Within (minus FULL-STROKE) (pos FULL-STROKE) (clampToStroke x)
 unfolding clampToStroke
 stroke-within x = clamp-within x (leZ-yes tt)
 
 pub scaled-within : {factor x : ℤ} → Scaling factor x → Within (minus 2147483648) (pos 2147483648) (scaledBy factor x)
-unfolding scaledBy
-scaled-within s = wider (over 65536 (times (s .value) (s .factor))) tt tt
+unfolding scaledBy objects
+scaled-within s = wider (over PARTS (times (s .value) (s .factor))) tt tt
 
 -- ---- target and command lie within full stroke
 
-pub target-within : (active : Bool) (b : Block) → Within (minus 16384) (pos 16384) (targetOf active b)
+pub target-within : (active : Bool) (b : Block) → Within (minus FULL-STROKE) (pos FULL-STROKE) (targetOf active b)
 unfolding targetOf targetFrom
 target-within active b = stroke-within _
 
-pub command-within : (b : Block) → Within (minus 16384) (pos 16384) (commandOf b)
+pub command-within : (b : Block) → Within (minus FULL-STROKE) (pos FULL-STROKE) (commandOf b)
 unfolding commandOf
 command-within b = stroke-within _
 
@@ -69,50 +73,57 @@ hold-target-depends b c e = rw e
 -- ---- what a sound block gives to its functions
 
 module _ {b : Block} (s : Sound b) where
-  pub input-within : (active : Bool) → Integer16 (inputOf active b)
-  unfolding inputOf objects
-  input-within active = by-test Integer16 active (λ e. sound-block s .setpoint) (λ e. sound-block s .settings .ranged 0 (omega arith))
+  in-range : (place : ℕ) → place < SETTINGS → InRange place (setting b place)
+  in-range = block-parts s .settings .ranged
 
-  pub chain : (active : Bool) → Chain (setting b 2) (setting b 1) (setting b 3) (setting b 4) (setting b 5) (inputOf active b)
-  unfolding objects
+  pub input-within : (active : Bool) → InRange SET-POINT (inputOf active b)
+  unfolding inputOf objects
+  input-within active = by-test (InRange SET-POINT) active (λ e. block-parts s .setpoint) (λ e. in-range HOLD-SET-POINT (omega arith))
+
+  pub chain : (active : Bool) → Chain (setting b LOWER-LIMIT) (setting b UPPER-LIMIT) (setting b SCALING-FACTOR) (setting b SCALING-OFFSET) (setting b ZERO-CORRECTION) (inputOf active b)
   chain active =
-      let in-row = sound-block s .settings .ranged in
       record {
-        lower = in-row 2 (omega arith);
-        upper = in-row 1 (omega arith);
-        factor = in-row 3 (omega arith);
-        offset = in-row 4 (omega arith);
-        zero = in-row 5 (omega arith);
+        lower = in-range LOWER-LIMIT (omega arith);
+        upper = in-range UPPER-LIMIT (omega arith);
+        factor = in-range SCALING-FACTOR (omega arith);
+        offset = in-range SCALING-OFFSET (omega arith);
+        zero = in-range ZERO-CORRECTION (omega arith);
         input = input-within active;
       }
 
-  pub band : Band (setting b 14) (setting b 15) (setting b 16) (wholeOf (b .position))
-  unfolding objects wholeOf
+  pub band : Band (setting b A-SIDE) (setting b B-SIDE) (setting b THRESHOLD) (wholeOf (b .position))
+  unfolding wholeOf
   band =
-      let in-row = sound-block s .settings .ranged in
       record {
-        a-side = in-row 14 (omega arith);
-        b-side = in-row 15 (omega arith);
-        threshold = in-row 16 (omega arith);
-        whole = over 65536 (sound-block s .position);
+        a-side = in-range A-SIDE (omega arith);
+        b-side = in-range B-SIDE (omega arith);
+        threshold = in-range THRESHOLD (omega arith);
+        whole = over PARTS (block-parts s .position);
       }
 
   pub way : (active : Bool) → Way (rampOf b) (targetPosition active b) (b .position)
   unfolding objects targetPosition
   way active =
-      let in-row = sound-block s .settings .ranged in
       record {
         ramp = record {
-          kind = in-row 6 (omega arith);
-          acceleration = record { one = in-row 7 (omega arith); positive = in-row 8 (omega arith); negative = in-row 9 (omega arith) };
-          deceleration = record { one = in-row 10 (omega arith); positive = in-row 11 (omega arith); negative = in-row 12 (omega arith) };
+          kind = in-range RAMP-TYPE (omega arith);
+          acceleration = record {
+            one = in-range ACCELERATION (omega arith);
+            positive = in-range ACCELERATION-POSITIVE (omega arith);
+            negative = in-range ACCELERATION-NEGATIVE (omega arith);
+          };
+          deceleration = record {
+            one = in-range DECELERATION (omega arith);
+            positive = in-range DECELERATION-POSITIVE (omega arith);
+            negative = in-range DECELERATION-NEGATIVE (omega arith);
+          };
         };
-        target = record { inside = size (times (target-within active b) (exactly (pos 65536))) };
-        position = record { inside = size (sound-block s .position) };
+        target = record { inside = size (times (target-within active b) (exactly (pos PARTS))) };
+        position = record { inside = size (block-parts s .position) };
       }
 
   pub position-fits : SFits w64 (b .position)
-  position-fits = fits (sound-block s .position) tt tt
+  position-fits = fits (block-parts s .position) tt tt
 
 -- what the functions of the ramp are handed
 pub way-told : {b : Block} {r : Ramp} {t : ℤ} → Sound b → (active : Bool) → r ≡ rampOf b → t ≡ targetPosition active b → Way r t (toZ w64 (ofZ w64 (b .position)))

@@ -13,64 +13,81 @@ use Rattle.integers.specs.Words.{minus, each}
 use Rattle.integers.specs.Range.{Within}
 use Rattle.integers.proofs.Linear.{ints}
 use Rattle.integers.proofs.Each.{and-split, and-both, each-at, each-all}
-use Rattle.objects.specs.Table.{objects, rowAt}
-use Rattle.block.specs.Target.{at}
-use Rattle.block.specs.Sound.{liesIn, inRow, soundSettings, soundBlock, Sound, freshBlock}
-use Rattle.block.specs.Asked.{Integer16}
+use Rattle.objects.specs.Numbers.{FULL-POSITION}
+use Rattle.objects.specs.Places.{SETTINGS, SET-POINT, UPPER-LIMIT, LOWER-LIMIT}
+use Rattle.objects.specs.Table.{objects, rowAt, InRange}
+use Rattle.block.specs.Block.{at, withSetpoint, withSettings, atPosition, freshBlock}
+use Rattle.block.specs.Sound.{liesIn, inRow, soundSettings, soundBlock, Sound}
 use Rattle.block.specs.declared.Block.{Block}
 
-pub lies : (low high x : ℤ) → liesIn low high x ≡ true → Within low high x
+pub lies-within : (low high x : ℤ) → liesIn low high x ≡ true → Within low high x
 unfolding liesIn
-lies low high x e = let s = and-split (leZ low x) (leZ x high) e in omega (arith, ints)
+lies-within low high x e = let s = and-split (leZ low x) (leZ x high) e in omega (arith, ints)
 
-pub within : {low high x : ℤ} → Within low high x → liesIn low high x ≡ true
+pub within-lies : {low high x : ℤ} → Within low high x → liesIn low high x ≡ true
 unfolding liesIn
-within {low} {high} {x} w =
+within-lies {low} {high} {x} w =
     let p : leZ low x ≡ true = omega (arith, ints) in
     let q : leZ x high ≡ true = omega (arith, ints) in
     and-both p q
 
-pub record SoundSettings (s : List ℤ) : Type 0 where
-  pub seventeen : length s ≡ 17
-  pub ranged : (place : ℕ) → place < 17 → Within (rowAt place .low) (rowAt place .high) (at s place)
-  pub uncrossed : at s 2 ≤ℤ at s 1
+-- ---- the settings
+
+pub record SettingsParts (s : List ℤ) : Type 0 where
+  pub long : length s ≡ SETTINGS
+  pub ranged : (place : ℕ) → place < SETTINGS → InRange place (at s place)
+  pub uncrossed : at s LOWER-LIMIT ≤ℤ at s UPPER-LIMIT
 
 abbrev ranged-at : List ℤ → ℕ → Bool
 ranged-at s place = inRow (rowAt place) (at s place)
 
-pub sound-settings : (s : List ℤ) → soundSettings s ≡ true → SoundSettings s
+pub settings-parts : (s : List ℤ) → soundSettings s ≡ true → SettingsParts s
 unfolding soundSettings
-sound-settings s e =
-    let outer = and-split (eqb (length s) 17 && each 17 (ranged-at s)) (leZ (at s 2) (at s 1)) e in
-    let inner = and-split (eqb (length s) 17) (each 17 (ranged-at s)) (outer .0) in
+settings-parts s e =
+    let outer = and-split (eqb (length s) SETTINGS && each SETTINGS (ranged-at s)) (leZ (at s LOWER-LIMIT) (at s UPPER-LIMIT)) e in
+    let inner = and-split (eqb (length s) SETTINGS) (each SETTINGS (ranged-at s)) (outer .0) in
     record {
-      seventeen = eqb-true (length s) 17 (inner .0);
-      ranged = λ place h. lies _ _ _ (each-at 17 (ranged-at s) place (inner .1) h);
+      long = eqb-true (length s) SETTINGS (inner .0);
+      ranged = λ place h. lies-within _ _ _ (each-at SETTINGS (ranged-at s) place (inner .1) h);
       uncrossed = omega (arith, ints);
     }
 
-pub settings-sound : (s : List ℤ) → SoundSettings s → soundSettings s ≡ true
+pub settings-from-parts : (s : List ℤ) → SettingsParts s → soundSettings s ≡ true
 unfolding soundSettings
-settings-sound s h =
-    let uncrossed : leZ (at s 2) (at s 1) ≡ true = omega (arith, ints, h .uncrossed) in
-    and-both (and-both (eq-eqb (length s) 17 (h .seventeen)) (each-all 17 (ranged-at s) (λ place k. within (h .ranged place k)))) uncrossed
+settings-from-parts s h =
+    let uncrossed : leZ (at s LOWER-LIMIT) (at s UPPER-LIMIT) ≡ true = omega (arith, ints, h .uncrossed) in
+    and-both (and-both (eq-eqb (length s) SETTINGS (h .long)) (each-all SETTINGS (ranged-at s) (λ place k. within-lies (h .ranged place k)))) uncrossed
 
-pub record SoundBlock (b : Block) : Type 0 where
-  pub settings : SoundSettings (b .settings)
-  pub setpoint : Integer16 (b .setpoint)
-  pub position : Within (minus 1073741824) (pos 1073741824) (b .position)
+-- ---- the block
 
-pub sound-block : {b : Block} → Sound b → SoundBlock b
-unfolding soundBlock objects
-sound-block {b} e =
-    let outer = and-split (soundSettings (b .settings) && inRow (rowAt 17) (b .setpoint)) (liesIn (minus 1073741824) (pos 1073741824) (b .position)) (e .sound) in
-    let inner = and-split (soundSettings (b .settings)) (inRow (rowAt 17) (b .setpoint)) (outer .0) in
-    record { settings = sound-settings (b .settings) (inner .0); setpoint = lies _ _ _ (inner .1); position = lies _ _ _ (outer .1) }
+pub record BlockParts (b : Block) : Type 0 where
+  pub position : Within (minus FULL-POSITION) (pos FULL-POSITION) (b .position)
+  pub setpoint : InRange SET-POINT (b .setpoint)
+  pub settings : SettingsParts (b .settings)
 
-pub block-sound : {b : Block} → SoundBlock b → Sound b
-unfolding soundBlock objects
-block-sound {b} h =
-    record { sound = and-both (and-both (settings-sound (b .settings) (h .settings)) (within (h .setpoint))) (within (h .position)) }
+pub block-parts : {b : Block} → Sound b → BlockParts b
+unfolding soundBlock
+block-parts {b} e =
+    let outer = and-split (liesIn (minus FULL-POSITION) (pos FULL-POSITION) (b .position) && inRow (rowAt SET-POINT) (b .setpoint)) (soundSettings (b .settings)) (e .sound) in
+    let inner = and-split (liesIn (minus FULL-POSITION) (pos FULL-POSITION) (b .position)) (inRow (rowAt SET-POINT) (b .setpoint)) (outer .0) in
+    record { position = lies-within _ _ _ (inner .0); setpoint = lies-within _ _ _ (inner .1); settings = settings-parts (b .settings) (outer .1) }
+
+pub block-from-parts : {b : Block} → BlockParts b → Sound b
+unfolding soundBlock
+block-from-parts {b} h =
+    record { sound = and-both (and-both (within-lies (h .position)) (within-lies (h .setpoint))) (settings-from-parts (b .settings) (h .settings)) }
+
+-- ---- a block with a part that is sound is sound
+
+module _ {b : Block} (s : Sound b) where
+  pub at-position-sound : {p : ℤ} → Within (minus FULL-POSITION) (pos FULL-POSITION) p → Sound (atPosition p b)
+  at-position-sound h = let parts = block-parts s in block-from-parts (record { position = h; setpoint = parts .setpoint; settings = parts .settings })
+
+  pub with-setpoint-sound : {x : ℤ} → InRange SET-POINT x → Sound (withSetpoint x b)
+  with-setpoint-sound h = let parts = block-parts s in block-from-parts (record { position = parts .position; setpoint = h; settings = parts .settings })
+
+  pub with-settings-sound : {l : List ℤ} → SettingsParts l → Sound (withSettings l b)
+  with-settings-sound h = let parts = block-parts s in block-from-parts (record { position = parts .position; setpoint = parts .setpoint; settings = h })
 
 -- the fresh block is sound, by computation
 pub fresh-sound : Sound freshBlock

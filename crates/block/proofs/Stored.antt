@@ -10,25 +10,25 @@ use lib.Seq.{take-suc, take-suc-set, take-all}
 use Rattle.integers.specs.Words.{each, _=?_}
 use Rattle.integers.proofs.Each.{each-at}
 use Rattle.integers.proofs.Machine.{=?-yes}
+use Rattle.objects.specs.Places.{SETTINGS}
 use Rattle.objects.specs.Table.{objects, rowAt}
-use Rattle.block.specs.Target.{at}
-use Rattle.block.specs.Sound.{freshBlock}
+use Rattle.block.specs.Block.{at, freshBlock}
 
--- the first k of 17 numbers are those of the fresh settings
+-- the first k numbers are those of the fresh settings
 pub record Stored (k : ℕ) (l : List ℤ) : Type 0 where
-  pub long : length l ≡ 17
+  pub long : length l ≡ SETTINGS
   pub so-far : take k l ≡ take k (freshBlock .settings)
 
-fresh-at : (k : ℕ) → k < 17 → at (freshBlock .settings) k ≡ rowAt k .fresh
+fresh-at : (k : ℕ) → k < SETTINGS → at (freshBlock .settings) k ≡ rowAt k .fresh
 unfolding freshBlock objects each
-fresh-at k h = =?-yes _ _ (each-at 17 (λ place. at (freshBlock .settings) place =? rowAt place .fresh) k refl h)
+fresh-at k h = =?-yes _ _ (each-at SETTINGS (λ place. at (freshBlock .settings) place =? rowAt place .fresh) k refl h)
 
-fresh-long : length (freshBlock .settings) ≡ 17
+fresh-long : length (freshBlock .settings) ≡ SETTINGS
 unfolding freshBlock objects
 fresh-long = refl
 
 -- a turn stores one more
-pub stored-more : {k : ℕ} {l : List ℤ} → Stored k l → k < 17 → Stored (k + 1) (set l k (rowAt k .fresh))
+pub stored-more : {k : ℕ} {l : List ℤ} → Stored k l → k < SETTINGS → Stored (k + 1) (set l k (rowAt k .fresh))
 stored-more {k} {l} s h =
     let p : k < length l = omega arith in
     let q : k < length (freshBlock .settings) = omega (arith, fresh-long) in
@@ -38,6 +38,6 @@ stored-more {k} {l} s h =
     }
 
 -- after the last turn all are stored
-pub stored-all : {l : List ℤ} → Stored 17 l → l ≡ freshBlock .settings
+pub stored-all : {l : List ℤ} → Stored SETTINGS l → l ≡ freshBlock .settings
 unfolding freshBlock objects
-stored-all {l} s = sym (take-all 17 l (omega arith)) ∙ s .so-far
+stored-all {l} s = sym (take-all SETTINGS l (omega arith)) ∙ s .so-far

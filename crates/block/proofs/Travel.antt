@@ -4,14 +4,16 @@ use mathlib.Core.Path.{_≡_, refl, sym, ap, _∙_}
 use Prim.Native.Nat.{ℕ, zero, suc, _+_}
 use lib.IntN.{ℤ}
 use Rattle.integers.proofs.Range.{around}
+use Rattle.objects.specs.Numbers.{FULL-POSITION}
 use Rattle.ramp.specs.Ramp.{ticked, Inside}
 use Rattle.ramp.specs.Demand.{Demand3}
 use Rattle.ramp.proofs.Demand.{demand3}
 use Rattle.block.specs.Target.{inputOf, targetOf, targetPosition}
 use Rattle.block.specs.Sound.{Sound}
-use Rattle.block.specs.Travel.{rampOf, atPosition, tickBlock, tickBlockTimes, jumpBlock}
+use Rattle.block.specs.Travel.{rampOf, tickBlock, tickBlockTimes, jumpBlock}
+use Rattle.block.specs.Block.{atPosition}
 use Rattle.block.specs.declared.Block.{Block}
-use Rattle.block.proofs.Sound.{sound-block, block-sound}
+use Rattle.block.proofs.Sound.{at-position-sound}
 use Rattle.block.proofs.Laws.{way}
 
 -- demand 3 of a sound block
@@ -36,9 +38,7 @@ target-stays active b p = refl
 -- ---- a sound block stays sound
 
 pub moved-sound : {b : Block} → Sound b → (p : ℤ) → Inside p → Sound (atPosition p b)
-moved-sound s p h =
-    let parts = sound-block s in
-    block-sound (record { settings = parts .settings; setpoint = parts .setpoint; position = around p 1073741824 (h .inside) })
+moved-sound s p h = at-position-sound s (around p FULL-POSITION (h .inside))
 
 pub jump-sound : {b : Block} → Sound b → (active : Bool) (n : ℕ) → Sound (jumpBlock active n b)
 unfolding jumpBlock

@@ -1,13 +1,15 @@
 -- Document 01, "Command", in HOLD and ACTIVE.
 use lib.IntN.{ℤ, pos, negℤ, _+ℤ_, _-ℤ_}
 use Rattle.integers.specs.Words.{if_then_else_, _over_, _<?_, _=?_}
+use Rattle.objects.specs.Numbers.{PARTS}
 use Rattle.objects.specs.Places.{DEAD-BAND-TYPE, A-SIDE, B-SIDE, THRESHOLD}
-use Rattle.block.specs.Target.{setting, clampToStroke}
+use Rattle.block.specs.Block.{setting}
+use Rattle.block.specs.Target.{clampToStroke}
 use Rattle.block.specs.declared.Block.{Block}
 
 -- a position in whole ir, toward zero
 unfoldable pub wholeOf : ℤ → ℤ
-wholeOf position = position over 65536
+wholeOf position = position over PARTS
 
 -- the dead band: r + A side above the threshold, r - B side below its negative, 0 between, ends included
 unfoldable pub banded : ℤ → ℤ → ℤ → ℤ → ℤ

@@ -1,3 +1,4 @@
+pub mod Block
 pub mod Target
 pub mod Command
 pub mod Sound

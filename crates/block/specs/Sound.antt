@@ -1,15 +1,15 @@
--- Document 01, "Numbers handed back": what makes a state sound, as far as it speaks of a block; and the fresh block.
+-- Document 01, "Numbers handed back": what makes a state sound, as far as it speaks of a block.
 use mathlib.Core.Bool.{Bool, true, _&&_}
-use mathlib.Core.List.{List, map}
+use mathlib.Core.List.{List}
 use mathlib.Core.Path.{_≡_}
 use lib.IntN.{ℤ, pos}
-use lib.ListN.{length, take}
+use lib.ListN.{length}
 use Rattle.integers.specs.Words.{minus, each, _≤?_, _is_}
+use Rattle.objects.specs.Numbers.{FULL-POSITION}
 use Rattle.objects.specs.Places.{SETTINGS, SET-POINT, UPPER-LIMIT, LOWER-LIMIT}
-use Rattle.objects.specs.Table.{objects, rowAt}
+use Rattle.objects.specs.Table.{rowAt}
 use Rattle.objects.specs.declared.Row.{Row}
-use Rattle.ramp.specs.Ramp.{FULL-STROKE}
-use Rattle.block.specs.Target.{at}
+use Rattle.block.specs.Block.{at}
 use Rattle.block.specs.declared.Block.{Block}
 
 -- x lies from `low` to `high`, ends included
@@ -20,29 +20,20 @@ liesIn low high x = low ≤? x && x ≤? high
 abbrev pub inRow : Row → ℤ → Bool
 inRow row x = liesIn (row .low) (row .high) x
 
--- 17 settings, each in its row's range, the lower limit not above the upper
+-- so many settings, each in its row's range, the lower limit not above the upper
 unfoldable pub soundSettings : List ℤ → Bool
 soundSettings settings =
     length settings is SETTINGS
     && each SETTINGS (λ place. inRow (rowAt place) (at settings place))
     && at settings LOWER-LIMIT ≤? at settings UPPER-LIMIT
 
--- sound settings, a set point in its row's range, a position within full stroke
+-- a position within full stroke, a set point in its row's range, sound settings
 unfoldable pub soundBlock : Block → Bool
 soundBlock b =
-    soundSettings (b .settings)
+    liesIn (minus FULL-POSITION) (pos FULL-POSITION) (b .position)
     && inRow (rowAt SET-POINT) (b .setpoint)
-    && liesIn (minus FULL-STROKE) (pos FULL-STROKE) (b .position)
+    && soundSettings (b .settings)
 
 -- what the functions of a block ask
 pub record Sound (b : Block) : Type 0 where
   pub sound : soundBlock b ≡ true
-
--- every setting and the set point as the table has it, at position 0
-unfoldable pub freshBlock : Block
-freshBlock =
-    record {
-      setpoint = rowAt SET-POINT .fresh;
-      position = pos 0;
-      settings = map (λ columns. columns .6) (take SETTINGS objects);
-    }

@@ -1,20 +1,11 @@
 -- Document 01, "From set point to target": the target is worked out from the settings each time.
 use mathlib.Core.Bool.{Bool}
-use mathlib.Core.List.{List}
-use Prim.Native.Nat.{ℕ}
 use lib.IntN.{ℤ, pos, _+ℤ_, _*ℤ_}
-use lib.ListN.{getD}
 use Rattle.integers.specs.Words.{if_then_else_, minus, _over_, _<?_}
+use Rattle.objects.specs.Numbers.{FULL-STROKE, PARTS}
 use Rattle.objects.specs.Places.{HOLD-SET-POINT, UPPER-LIMIT, LOWER-LIMIT, SCALING-FACTOR, SCALING-OFFSET, ZERO-CORRECTION}
 use Rattle.block.specs.declared.Block.{Block}
-
--- the number at a place of a list of settings
-abbrev pub at : List ℤ → ℕ → ℤ
-at settings place = getD settings place (pos 0)
-
--- the setting at a place of the table
-abbrev pub setting : Block → ℕ → ℤ
-setting b place = at (b .settings) place
+use Rattle.block.specs.Block.{setting}
 
 -- the input is 6300h in ACTIVE, and 6314h in the other states
 unfoldable pub inputOf : Bool → Block → ℤ
@@ -29,11 +20,11 @@ clampTo lower upper x =
 
 -- x clamped to full stroke either way, in ir
 unfoldable pub clampToStroke : ℤ → ℤ
-clampToStroke x = clampTo (minus 16384) (pos 16384) x
+clampToStroke x = clampTo (minus FULL-STROKE) (pos FULL-STROKE) x
 
 -- x times the factor, of which 65,536 is one, toward zero
 unfoldable pub scaledBy : ℤ → ℤ → ℤ
-scaledBy factor x = (x *ℤ factor) over 65536
+scaledBy factor x = (x *ℤ factor) over PARTS
 
 -- the input clamped to the limits and scaled, with 6323h and 6324h added once each, clamped to full stroke
 unfoldable pub targetFrom : ℤ → ℤ → ℤ → ℤ → ℤ → ℤ → ℤ
@@ -48,4 +39,4 @@ targetOf active b =
 
 -- the target position, in 1/65,536 ir
 unfoldable pub targetPosition : Bool → Block → ℤ
-targetPosition active b = targetOf active b *ℤ pos 65536
+targetPosition active b = targetOf active b *ℤ pos PARTS

@@ -1,11 +1,12 @@
 -- Document 01, "Ramp", of a block in HOLD or ACTIVE: its ramp, its ticks and its jumps.
 use mathlib.Core.Bool.{Bool}
 use Prim.Native.Nat.{ℕ, zero, suc}
-use lib.IntN.{ℤ}
-use Rattle.objects.specs.Places.{RAMP-TYPE, ACCELERATION, ACCELERATION-POSITIVE, ACCELERATION-NEGATIVE, DECELERATION, DECELERATION-POSITIVE, DECELERATION-NEGATIVE}
+use Rattle.objects.specs.Places.{RAMP-TYPE, ACCELERATION, ACCELERATION-POSITIVE, ACCELERATION-NEGATIVE}
+use Rattle.objects.specs.Places.{DECELERATION, DECELERATION-POSITIVE, DECELERATION-NEGATIVE}
 use Rattle.ramp.specs.Ramp.{tickOf, positionAfter, ticksToGo}
 use Rattle.ramp.specs.declared.Ramp.{Ramp}
-use Rattle.block.specs.Target.{setting, targetPosition}
+use Rattle.block.specs.Block.{setting, atPosition}
+use Rattle.block.specs.Target.{targetPosition}
 use Rattle.block.specs.declared.Block.{Block}
 
 -- the ramp type and the six times
@@ -16,10 +17,6 @@ rampOf b =
       acceleration = record { one = setting b ACCELERATION; positive = setting b ACCELERATION-POSITIVE; negative = setting b ACCELERATION-NEGATIVE };
       deceleration = record { one = setting b DECELERATION; positive = setting b DECELERATION-POSITIVE; negative = setting b DECELERATION-NEGATIVE };
     }
-
--- the block at another position
-abbrev pub atPosition : ℤ → Block → Block
-atPosition position b = record { setpoint = b .setpoint; position = position; settings = b .settings }
 
 -- a block after one tick
 unfoldable pub tickBlock : Bool → Block → Block

@@ -1,14 +1,13 @@
 // A value chain: from the set point by the settings to the target, along the ramp to the position, and on to the command.
 ghost use mathlib.Core.Path.{_≡_};
-ghost use Prim.Native.Nat.{_<_};
 ghost use Rattle.integers.specs.Words.{_=?_};
-ghost use Rattle.integers.specs.Range.{Within};
-ghost use Rattle.block.specs.Target.{at, setting, inputOf, clampTo, clampToStroke, scaledBy, targetFrom, targetOf, targetPosition};
+ghost use Rattle.block.specs.Block.{setting, atPosition, withSetpoint, withSetting, withSettings, freshBlock};
+ghost use Rattle.block.specs.Target.{inputOf, clampTo, clampToStroke, scaledBy, targetFrom, targetOf, targetPosition};
 ghost use Rattle.block.specs.Command.{wholeOf, bandedBy, commandOf};
 ghost use Rattle.block.specs.Command as Commands;
-ghost use Rattle.block.specs.Sound.{liesIn, soundSettings, soundBlock, Sound, freshBlock};
-ghost use Rattle.block.specs.Travel.{rampOf, atPosition, tickBlock, jumpBlock, ticksToGoOf};
-ghost use Rattle.block.specs.Asked.{Scaling, Chain, Band};
+ghost use Rattle.block.specs.Sound.{liesIn, soundSettings, soundBlock, Sound};
+ghost use Rattle.block.specs.Travel.{rampOf, tickBlock, jumpBlock, ticksToGoOf};
+ghost use Rattle.block.specs.Asked.{ASetting, Scaling, Chain, Band};
 use objects::A_SIDE;
 use objects::ACCELERATION;
 use objects::ACCELERATION_NEGATIVE;
@@ -18,8 +17,11 @@ use objects::DEAD_BAND_TYPE;
 use objects::DECELERATION;
 use objects::DECELERATION_NEGATIVE;
 use objects::DECELERATION_POSITIVE;
+use objects::FULL_POSITION;
+use objects::FULL_STROKE;
 use objects::HOLD_SET_POINT;
 use objects::LOWER_LIMIT;
+use objects::PARTS;
 use objects::RAMP_TYPE;
 use objects::SCALING_FACTOR;
 use objects::SCALING_OFFSET;
@@ -36,23 +38,57 @@ pub struct Block {
     // in 1/65,536 ir
     pub position: i64,
     // by their places in the object table
-    pub settings: [i64; 17],
+    pub settings: [i64; SETTINGS],
 }
 
-const STROKE: i64 = 16384;
-
-const FULL_STROKE: i64 = 1073741824;
-
-// How many parts make an ir, and what factor is one.
-const ONE: i64 = 65536;
+// ---- a block's parts
 
 pub fn setting(block: Block, place: usize) -> i64
-    requires { ⌜ place < 17 ⌝ }
+    requires { ⌜ ASetting place ⌝ }
     ensures { λ r. ⌜ r ≡ setting block place ⌝ }
 {
     let settings = block.settings;
     settings[place]
 }
+
+// The block at another position.
+pub fn at_position(block: Block, position: i64) -> Block
+    ensures { λ r. ⌜ r ≡ atPosition position block ⌝ }
+{
+    let mut other = block;
+    other.position = position;
+    other
+}
+
+// The block with another set point.
+pub fn with_setpoint(block: Block, value: i64) -> Block
+    ensures { λ r. ⌜ r ≡ withSetpoint value block ⌝ }
+{
+    let mut other = block;
+    other.setpoint = value;
+    other
+}
+
+// The block with another setting at a place.
+pub fn with_setting(block: Block, place: usize, value: i64) -> Block
+    requires { ⌜ ASetting place ⌝ }
+    ensures { λ r. ⌜ r ≡ withSetting place value block ⌝ }
+{
+    let mut other = block;
+    other.settings[place] = value;
+    other
+}
+
+// The block with other settings.
+pub fn with_settings(block: Block, settings: [i64; SETTINGS]) -> Block
+    ensures { λ r. ⌜ r ≡ withSettings settings block ⌝ }
+{
+    let mut other = block;
+    other.settings = settings;
+    other
+}
+
+// ---- the target
 
 fn clamp_to(lower: i64, upper: i64, x: i64) -> i64
     ensures { λ r. ⌜ r ≡ clampTo lower upper x ⌝ }
@@ -69,7 +105,7 @@ fn clamp_to(lower: i64, upper: i64, x: i64) -> i64
 fn clamp_to_stroke(x: i64) -> i64
     ensures { λ r. ⌜ r ≡ clampToStroke x ⌝ }
 {
-    clamp_to(-STROKE, STROKE, x)
+    clamp_to(-FULL_STROKE, FULL_STROKE, x)
 }
 
 // Division drops the fraction on both signs.
@@ -77,7 +113,7 @@ fn scaled_by(factor: i64, x: i64) -> i64
     requires { ⌜ Scaling factor x ⌝ }
     ensures { λ r. ⌜ r ≡ scaledBy factor x ⌝ }
 {
-    x * factor / ONE
+    x * factor / PARTS
 }
 
 fn target_from(lower: i64, upper: i64, factor: i64, offset: i64, zero: i64, input: i64) -> i64
@@ -117,13 +153,15 @@ fn target_position(block: Block, active: bool) -> i64
     requires { ⌜ Sound block ⌝ }
     ensures { λ r. ⌜ r ≡ targetPosition active block ⌝ }
 {
-    target(block, active) * ONE
+    target(block, active) * PARTS
 }
+
+// ---- the command
 
 fn whole_of(position: i64) -> i64
     ensures { λ r. ⌜ r ≡ wholeOf position ⌝ }
 {
-    position / ONE
+    position / PARTS
 }
 
 fn banded(a_side: i64, b_side: i64, threshold: i64, r: i64) -> i64
@@ -164,6 +202,8 @@ pub fn command(block: Block) -> i64
     ))
 }
 
+// ---- soundness
+
 pub fn lies_in(low: i64, high: i64, x: i64) -> bool
     ensures { λ r. ⌜ r ≡ liesIn low high x ⌝ }
 {
@@ -171,7 +211,7 @@ pub fn lies_in(low: i64, high: i64, x: i64) -> bool
 }
 
 // Each of the settings is in its row's range, and the limits are not crossed.
-pub fn sound_settings(settings: [i64; 17]) -> bool
+pub fn sound_settings(settings: [i64; SETTINGS]) -> bool
     ensures { λ r. ⌜ r ≡ soundSettings settings ⌝ }
 {
     let mut place = 0;
@@ -190,16 +230,16 @@ pub fn is_sound(block: Block) -> bool
 {
     let settings = block.settings;
     let row = objects::row_at(SET_POINT);
-    sound_settings(settings)
+    lies_in(-FULL_POSITION, FULL_POSITION, block.position)
         && lies_in(row.low, row.high, block.setpoint)
-        && lies_in(-FULL_STROKE, FULL_STROKE, block.position)
+        && sound_settings(settings)
 }
 
 // Every setting as the table has it fresh.
 pub fn fresh() -> Block
     ensures { λ r. ⌜ r ≡ freshBlock ⌝ }
 {
-    let mut settings = [0i64; 17];
+    let mut settings = [0i64; SETTINGS];
     let mut place = 0;
     while place < SETTINGS {
         let fresh = objects::row_at(place).fresh;
@@ -212,6 +252,8 @@ pub fn fresh() -> Block
         settings: settings,
     }
 }
+
+// ---- ticks
 
 fn ramp_of(block: Block) -> Ramp
     ensures { λ r. ⌜ r ≡ rampOf block ⌝ }
@@ -231,15 +273,6 @@ fn ramp_of(block: Block) -> Ramp
         acceleration: acceleration,
         deceleration: deceleration,
     }
-}
-
-// The block at another position.
-pub fn at_position(block: Block, position: i64) -> Block
-    ensures { λ r. ⌜ r ≡ atPosition position block ⌝ }
-{
-    let mut moved = block;
-    moved.position = position;
-    moved
 }
 
 // Whether the block has met its target.

@@ -1,8 +1,10 @@
--- A number and its bytes are each other's. Division by 256, again and again, takes the bytes off from the lowest up.
+-- A number and its bytes are each other's, and bytes put to the front of a room stand before its later ones. Division by 256, again and again, takes the bytes off from the lowest up.
 use mathlib.Core.Path.{_≡_}
-use mathlib.Core.List.{[], _∷_}
+use mathlib.Core.List.{List, [], _∷_, _++_}
 use Prim.Native.Nat.{ℕ, _+_, _*_, _/_, _<_}
 use native.Mathlib.Omega.{arith}
+use lib.ListN.{length, drop}
+use lib.Seq.{paste, take-all}
 use Rattle.coding.specs.Bytes.{byteOf, twoBytes, fourBytes, twoOf, fourOf}
 
 -- the two bytes of a number that has no more make it
@@ -38,3 +40,9 @@ bytes-of-four {a} {b} {c} {d} p q r s =
     let y : byteOf n 2 ≡ c = rw two (omega arith) in
     let z : byteOf n 3 ≡ d = rw three (omega arith) in
     rw (w, x, y, z)
+
+-- so many bytes to the front of a room
+pub paste-front : (room bytes : List ℕ) (n : ℕ) → length bytes ≡ n → paste room 0 bytes (length bytes) ≡ bytes ++ drop n room
+paste-front room bytes n e =
+    let far : 0 + length bytes ≡ n = omega arith in
+    rw (far, take-all (length bytes) bytes (omega arith))

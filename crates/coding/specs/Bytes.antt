@@ -1,6 +1,11 @@
--- Numbers as bytes, low first.
+-- Document 01, "SDO" and "Stored image": numbers as bytes, low first.
 use mathlib.Core.List.{List, [], _∷_}
 use Prim.Native.Nat.{ℕ, _+_, _*_, _/_, _%_, _^_}
+use lib.ListN.{getD}
+
+-- the byte at a place of some bytes; past the end it is 0
+abbrev pub byteAt : List ℕ → ℕ → ℕ
+byteAt bytes place = getD bytes place 0
 
 -- the byte at a place of a number
 abbrev pub byteOf : ℕ → ℕ → ℕ

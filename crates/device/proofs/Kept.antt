@@ -1,12 +1,14 @@
 -- Control words, faults, ticks and jumps change no setting and no set point. So whenever a device is back in a state, its target is what it was: no change of state can add a correction again.
 use mathlib.Core.Path.{_≡_, refl, sym, _∙_}
 use Prim.Native.Nat.{ℕ}
+use lib.Dec.{eqb}
 use Rattle.integers.proofs.Cases.{by-test}
 use Rattle.block.specs.declared.Block.{Block}
 use Rattle.block.specs.Travel.{tickBlock, jumpBlock}
 use Rattle.block.proofs.Laws.{target-depends}
-use Rattle.device.specs.States.{ACTIVE, HOLD, nextState, driven}
-use Rattle.device.specs.Events.{blockIn, controlled, faulted, isActive, tickDevice, jumpDevice}
+use Rattle.device.specs.States.{ACTIVE, HOLD, FAULT, nextState, driven}
+use Rattle.device.specs.Device.{isActive}
+use Rattle.device.specs.Events.{blockIn, entering, controlled, reported, faulted, tickDevice, jumpDevice}
 use Rattle.device.specs.Queries.{deviceTarget}
 use Rattle.device.specs.declared.Device.{Device}
 
@@ -23,17 +25,21 @@ then-same p q = record { settings = p .settings ∙ q .settings; setpoint = p .s
 
 -- ---- each event
 
-pub controlled-keeps : (word : ℕ) (d : Device) → SameSettings (controlled word d) d
-unfolding controlled blockIn
-controlled-keeps word d =
+pub entering-keeps : (state : ℕ) (d : Device) → SameSettings (entering state d) d
+unfolding entering blockIn
+entering-keeps state d =
     record {
-      settings = by-test (λ (b : Block). b .settings ≡ d .block .settings) (driven (nextState (d .state) (d .control) word)) (λ e. refl) (λ e. refl);
-      setpoint = by-test (λ (b : Block). b .setpoint ≡ d .block .setpoint) (driven (nextState (d .state) (d .control) word)) (λ e. refl) (λ e. refl);
+      settings = by-test (λ (b : Block). b .settings ≡ d .block .settings) (driven state) (λ e. refl) (λ e. refl);
+      setpoint = by-test (λ (b : Block). b .setpoint ≡ d .block .setpoint) (driven state) (λ e. refl) (λ e. refl);
     }
 
+pub controlled-keeps : (word : ℕ) (d : Device) → SameSettings (controlled word d) d
+unfolding controlled
+controlled-keeps word d = let k = entering-keeps (nextState (d .state) (d .control) word) d in record { settings = k .settings; setpoint = k .setpoint }
+
 pub faulted-keeps : (code : ℕ) (d : Device) → SameSettings (faulted code d) d
-unfolding faulted blockIn driven
-faulted-keeps code d = record { settings = refl; setpoint = refl }
+unfolding faulted reported
+faulted-keeps code d = then-same (entering-keeps FAULT (reported code d)) (by-test (λ e. SameSettings e d) (eqb (d .state) FAULT) (λ e. same) (λ e. record { settings = refl; setpoint = refl }))
 
 pub tick-keeps : (d : Device) → SameSettings (tickDevice d) d
 unfolding tickDevice tickBlock

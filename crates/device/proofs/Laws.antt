@@ -1,56 +1,81 @@
 -- A sound device by its parts, both ways; and that every event keeps a sound device sound.
-use mathlib.Core.Bool.{true, false, not, cond, _&&_, _||_}
+use mathlib.Core.Bool.{true, false, not, _&&_, _||_}
 use mathlib.Core.Logic.{_≢_}
 use mathlib.Core.Path.{_≡_, refl, sym}
-use Prim.Native.Nat.{ℕ, _<_}
+use Prim.Native.Nat.{ℕ, _+_, _≤_}
 use native.Mathlib.Omega.{arith}
-use borrow.Author.Tests.{ltb-true, lt-ltb, eqb-false, eq-eqb, ne-eqb}
-use lib.Dec.{ltb, eqb}
+use borrow.Author.Tests.{ne-eqb}
+use lib.Dec.{eqb}
 use lib.IntN.{pos}
+use Rattle.integers.specs.Words.{_=?_}
 use Rattle.integers.proofs.Cases.{by-cases, by-test, clash}
 use Rattle.integers.proofs.Each.{and-split, and-both}
-use Rattle.block.specs.Sound.{soundBlock, freshBlock}
+use Rattle.block.specs.Block.{freshBlock}
+use Rattle.block.specs.Sound.{soundBlock}
+use Rattle.block.specs.Target.{targetPosition}
 use Rattle.block.specs.Sound as Blocks
 use Rattle.block.proofs.Sound as BlockSound
 use Rattle.block.proofs.Travel as BlockTravel
 use Rattle.block.specs.declared.Block.{Block}
-use Rattle.device.specs.States.{bit, fromDisabled, fromHold, fromActive, fromFault, nextState, driven}
-use Rattle.device.specs.Events.{freshDevice, blockIn, controlled, faulted, withBlock, isActive, tickDevice, jumpDevice}
-use Rattle.device.specs.Sound.{restsAt, errorFits, soundDevice, Sound}
+use Rattle.device.specs.Queries.{STATUS-ACTIVE, TARGET-MET, targetMet, statusOf}
+use Rattle.device.specs.States.{DISABLED, HOLD, ACTIVE, FAULT, bit, fromDisabled, fromHold, fromActive, fromFault, nextState, driven}
+use Rattle.device.specs.Device.{freshDevice, withBlock, withControl, isActive}
+use Rattle.device.specs.Events.{blockIn, errorIn, entering, controlled, reported, faulted, tickDevice, jumpDevice}
+use Rattle.device.specs.Sound.{isState, errorFits, rests, soundDevice, Sound}
 use Rattle.device.specs.declared.Device.{Device}
 
 pub record Parts (d : Device) : Type 0 where
-  pub known : d .state < 4
-  pub block : Blocks.Sound (d .block)
-  pub rests : restsAt (d .state) (d .block .position) ≡ true
+  pub known : isState (d .state) ≡ true
   pub fits : errorFits (d .state) (d .error) ≡ true
+  pub at-rest : rests d ≡ true
+  pub block : Blocks.Sound (d .block)
 
-pub parts : {d : Device} → Sound d → Parts d
+pub device-parts : {d : Device} → Sound d → Parts d
 unfolding soundDevice
-parts {d} s =
-    let abc = and-split (ltb (d .state) 4 && soundBlock (d .block) && restsAt (d .state) (d .block .position)) (errorFits (d .state) (d .error)) (s .sound) in
-    let ab = and-split (ltb (d .state) 4 && soundBlock (d .block)) (restsAt (d .state) (d .block .position)) (abc .0) in
-    let a = and-split (ltb (d .state) 4) (soundBlock (d .block)) (ab .0) in
-    record { known = ltb-true (d .state) 4 (a .0); block = record { sound = a .1 }; rests = ab .1; fits = abc .1 }
+device-parts {d} s =
+    let first = isState (d .state) && errorFits (d .state) (d .error) in
+    let abc = and-split (first && rests d) (soundBlock (d .block)) (s .sound) in
+    let ab = and-split first (rests d) (abc .0) in
+    let a = and-split (isState (d .state)) (errorFits (d .state) (d .error)) (ab .0) in
+    record { known = a .0; fits = a .1; at-rest = ab .1; block = record { sound = abc .1 } }
 
-pub sound : {d : Device} → Parts d → Sound d
+pub device-from-parts : {d : Device} → Parts d → Sound d
 unfolding soundDevice
-sound {d} p =
-    record { sound = and-both (and-both (and-both (lt-ltb (d .state) 4 (p .known)) (p .block .sound)) (p .rests)) (p .fits) }
+device-from-parts p = record { sound = and-both (and-both (and-both (p .known) (p .fits)) (p .at-rest)) (p .block .sound) }
 
-pub sound-block : {d : Device} → Sound d → Blocks.Sound (d .block)
-sound-block s = parts s .block
+pub block-of-sound : {d : Device} → Sound d → Blocks.Sound (d .block)
+block-of-sound s = device-parts s .block
 
--- ---- a block in a state
+-- a device with another sound block is sound, where that rests as it must
+pub with-block-sound : {d : Device} {b : Block} → Sound d → Blocks.Sound b → rests (withBlock b d) ≡ true → Sound (withBlock b d)
+with-block-sound s h e = let p = device-parts s in device-from-parts (record { known = p .known; fits = p .fits; at-rest = e; block = h })
 
--- it is sound, and rests where the valve is not driven
+-- it does so where the device is driven, and where the block stands at the same position
+pub driven-rests : (d : Device) (b : Block) → driven (d .state) ≡ true → rests (withBlock b d) ≡ true
+unfolding rests
+driven-rests d b e = rw e
+
+pub position-rests : {d : Device} (b : Block) → Sound d → b .position ≡ d .block .position → rests (withBlock b d) ≡ true
+unfolding rests
+position-rests b s e = rw e (device-parts s .at-rest)
+
+-- ---- entering a state
+
 block-in-sound : (state : ℕ) {b : Block} → Blocks.Sound b → Blocks.Sound (blockIn state b)
 unfolding blockIn
 block-in-sound state {b} s = by-test Blocks.Sound (driven state) (λ e. s) (λ e. BlockTravel.moved-sound s (pos 0) (record { inside = omega arith }))
 
-block-in-rests : (state : ℕ) (b : Block) → restsAt state (blockIn state b .position) ≡ true
-unfolding blockIn restsAt
-block-in-rests state b = by-cases (driven state) (λ e. rw e) (λ e. rw e)
+-- a device that enters one of the four states is sound, where FAULT has an error code
+pub entering-sound : (d : Device) (state : ℕ) → Blocks.Sound (d .block) → isState state ≡ true → (eqb state FAULT ≡ true → d .error ≢ 0) → Sound (entering state d)
+unfolding entering
+entering-sound d state s known code =
+    device-from-parts
+    (record {
+      known = known;
+      fits = unfold errorFits errorIn in by-cases (eqb state FAULT) (λ e. rw (e, ne-eqb (d .error) 0 (code e))) (λ e. rw e);
+      at-rest = unfold rests blockIn in by-cases (driven state) (λ e. rw e) (λ e. rw e);
+      block = block-in-sound state s;
+    })
 
 -- ---- control words
 
@@ -80,71 +105,83 @@ module _ (P : ℕ → Type 0) (word : ℕ) where
   by-fault before a b = by-test P (bit 3 word && not (bit 3 before)) (λ e. a) (λ e. b)
 
 -- a control word leads to one of the four states
-next-known : (state before word : ℕ) → nextState state before word < 4
+next-known : (state before word : ℕ) → isState (nextState state before word) ≡ true
+unfolding isState
 next-known state before word =
-    by-state Known state before word (by-disabled Known word (omega arith) (omega arith)) (by-hold Known word (omega arith) (omega arith) (omega arith))
-    (by-active Known word (omega arith) (omega arith) (omega arith)) (λ e f g. by-fault Known word before (omega arith) (omega arith))
+    by-state Known state before word (by-disabled Known word refl refl) (by-hold Known word refl refl refl)
+    (by-active Known word refl refl refl) (λ e f g. by-fault Known word before refl refl)
   where
     Known : ℕ → Type 0
-    Known n = n < 4
+    Known n = isState n ≡ true
 
 -- and to FAULT from FAULT alone
-stays-in-fault : (state before word : ℕ) → state < 4 → eqb (nextState state before word) 3 ≡ true → eqb state 3 ≡ true
+stays-in-fault : (state before word : ℕ) → isState state ≡ true → eqb (nextState state before word) FAULT ≡ true → eqb state FAULT ≡ true
+unfolding isState
 stays-in-fault state before word h =
     by-state Stays state before word (by-disabled Stays word never never) (by-hold Stays word never never never) (by-active Stays word never never never)
-    (λ e f g. by-fault Stays word before never (λ k. eq-eqb state 3 (omega (arith, eqb-false state 0 e, eqb-false state 1 f, eqb-false state 2 g))))
+    (λ e f g. by-fault Stays word before never (λ k. rw (e, f, g) at h))
   where
     Stays : ℕ → Type 0
-    Stays n = eqb n 3 ≡ true → eqb state 3 ≡ true
+    Stays n = eqb n FAULT ≡ true → eqb state FAULT ≡ true
 
-    never : false ≡ true → eqb state 3 ≡ true
+    never : false ≡ true → eqb state FAULT ≡ true
     never e = clash refl (sym e)
 
--- the error code goes with the state: kept in FAULT, and 0 elsewhere
-fits-next : (next state error : ℕ) → (eqb next 3 ≡ true → eqb state 3 ≡ true) → errorFits state error ≡ true → errorFits next (cond (eqb next 3) error 0) ≡ true
+-- in FAULT a sound device has an error code
+error-in-fault : {d : Device} → Sound d → eqb (d .state) FAULT ≡ true → d .error ≢ 0
 unfolding errorFits
-fits-next next state error f e = by-cases (eqb next 3) (λ k. rw k (rw (f k) at e)) (λ k. rw k)
+error-in-fault {d} s e z = clash (rw e at (device-parts s .fits)) (rw z)
+
+-- the stored control word has no part in soundness
+with-control-sound : {d : Device} → Sound d → (word : ℕ) → Sound (withControl word d)
+unfolding soundDevice rests
+with-control-sound s word = record { sound = s .sound }
 
 pub controlled-sound : {d : Device} → Sound d → (word : ℕ) → Sound (controlled word d)
 unfolding controlled
 controlled-sound {d} s word =
-    let p = parts s in
-    let state = nextState (d .state) (d .control) word in
-    sound
-    (record {
-      known = next-known (d .state) (d .control) word;
-      block = block-in-sound state (p .block);
-      rests = block-in-rests state (d .block);
-      fits = fits-next state (d .state) (d .error) (stays-in-fault (d .state) (d .control) word (p .known)) (p .fits);
-    })
+    let p = device-parts s in
+    with-control-sound
+    (entering-sound d _ (p .block) (next-known (d .state) (d .control) word)
+    (λ e. error-in-fault s (stays-in-fault (d .state) (d .control) word (p .known) e))) word
 
 -- ---- faults, ticks and jumps
 
 pub faulted-sound : {d : Device} → Sound d → (code : ℕ) → code ≢ 0 → Sound (faulted code d)
-unfolding faulted errorFits
-faulted-sound {d} s code h =
-    let p = parts s in
-    sound
-    (record {
-      known = omega arith;
-      block = block-in-sound 3 (p .block);
-      rests = block-in-rests 3 (d .block);
-      fits = by-cases (eqb (d .state) 3) (λ k. rw k (rw k at (p .fits))) (λ k. rw (k, ne-eqb code 0 h));
-    })
+unfolding faulted isState
+faulted-sound {d} s code h = entering-sound (reported code d) FAULT block refl (λ e. error)
+  where
+    block : Blocks.Sound (reported code d .block)
+    block = unfold reported in by-test (λ (e : Device). Blocks.Sound (e .block)) (eqb (d .state) FAULT) (λ k. block-of-sound s) (λ k. block-of-sound s)
 
--- a driven device with another sound block
-with-block-sound : {d : Device} {b : Block} → Sound d → driven (d .state) ≡ true → Blocks.Sound b → Sound (withBlock b d)
-unfolding restsAt
-with-block-sound s e h = let p = parts s in sound (record { known = p .known; block = h; rests = rw e; fits = p .fits })
+    error : reported code d .error ≢ 0
+    error = unfold reported in by-test (λ (e : Device). e .error ≢ 0) (eqb (d .state) FAULT) (λ k. error-in-fault s k) (λ k. h)
 
 pub tick-sound : {d : Device} → Sound d → Sound (tickDevice d)
 unfolding tickDevice
-tick-sound {d} s = by-test Sound (driven (d .state)) (λ e. with-block-sound s e (BlockTravel.tick-sound (sound-block s) (isActive d))) (λ e. s)
+tick-sound {d} s = by-test Sound (driven (d .state)) (λ e. with-block-sound s (BlockTravel.tick-sound (block-of-sound s) (isActive d)) (driven-rests d _ e)) (λ e. s)
 
 pub jump-sound : {d : Device} → Sound d → (n : ℕ) → Sound (jumpDevice n d)
 unfolding jumpDevice
-jump-sound {d} s n = by-test Sound (driven (d .state)) (λ e. with-block-sound s e (BlockTravel.jump-sound (sound-block s) (isActive d) n)) (λ e. s)
+jump-sound {d} s n = by-test Sound (driven (d .state)) (λ e. with-block-sound s (BlockTravel.jump-sound (block-of-sound s) (isActive d) n) (driven-rests d _ e)) (λ e. s)
 
 pub fresh-sound : Sound freshDevice
-unfolding freshDevice restsAt errorFits driven
-fresh-sound = sound (record { known = omega arith; block = BlockSound.fresh-sound; rests = unfold freshBlock in refl; fits = refl })
+unfolding freshDevice isState errorFits rests driven
+fresh-sound = device-from-parts (record { known = refl; fits = refl; at-rest = unfold freshBlock in refl; block = BlockSound.fresh-sound })
+
+-- ---- the status word
+
+pub met-most : (d : Device) → targetMet d ≤ TARGET-MET
+unfolding targetMet
+met-most d = by-test (λ n. n ≤ TARGET-MET) (d .block .position =? targetPosition (isActive d) (d .block)) (λ e. omega arith) (λ e. omega arith)
+
+pub status-most : (d : Device) → statusOf d ≤ STATUS-ACTIVE + TARGET-MET
+unfolding statusOf
+status-most d =
+    let met = met-most d in
+    by-test Small (eqb (d .state) DISABLED) (λ e. omega arith)
+    (λ e. by-test Small (eqb (d .state) HOLD) (λ f. omega arith)
+    (λ f. by-test Small (eqb (d .state) ACTIVE) (λ g. omega arith) (λ g. omega arith)))
+  where
+    Small : ℕ → Type 0
+    Small n = n ≤ STATUS-ACTIVE + TARGET-MET

@@ -9,12 +9,13 @@ use Rattle.integers.proofs.Machine.{=?-yes}
 use Rattle.block.specs.Travel.{tickBlockTimes, jumpBlock, ticksToGoOf}
 use Rattle.block.proofs.Travel.{block-demand3, ticks-are-a-jump, jumps-add}
 use Rattle.device.specs.States.{driven}
-use Rattle.device.specs.Events.{withBlock, isActive, tickDevice, tickDeviceTimes, jumpDevice}
+use Rattle.device.specs.Device.{withBlock, isActive}
+use Rattle.device.specs.Events.{tickDevice, tickDeviceTimes, jumpDevice}
 use Rattle.device.specs.Queries.{deviceTicksToGo}
-use Rattle.device.specs.Sound.{restsAt, Sound}
+use Rattle.device.specs.Sound.{rests, Sound}
 use Rattle.device.specs.Demand.{devicePositionAfter, Demand3}
 use Rattle.device.specs.declared.Device.{Device}
-use Rattle.device.proofs.Laws.{parts, sound-block}
+use Rattle.device.proofs.Laws.{device-parts, block-of-sound}
 
 -- ---- at rest
 
@@ -33,8 +34,8 @@ module _ (d : Device) (k : driven (d .state) ≡ false) where
   ticks-rest (suc n) = ap tickDevice (ticks-rest n) ∙ tick-rests
 
 rests-at-zero : {d : Device} → Sound d → driven (d .state) ≡ false → d .block .position ≡ pos 0
-unfolding restsAt
-rests-at-zero {d} s k = =?-yes (d .block .position) (pos 0) (rw k at (parts s .rests))
+unfolding rests
+rests-at-zero {d} s k = =?-yes (d .block .position) (pos 0) (rw k at (device-parts s .at-rest))
 
 -- ---- driven
 
@@ -54,7 +55,7 @@ module _ {d : Device} (s : Sound d) where
   ticks : (n : ℕ) → tickDeviceTimes n d ≡ jumpDevice n d
   ticks n =
       by-cases (driven (d .state))
-      (λ k. ticks-driven d k n ∙ ap (λ b. withBlock b d) (ticks-are-a-jump (sound-block s) (isActive d) n) ∙ sym (jump-driven d k n))
+      (λ k. ticks-driven d k n ∙ ap (λ b. withBlock b d) (ticks-are-a-jump (block-of-sound s) (isActive d) n) ∙ sym (jump-driven d k n))
       (λ k. ticks-rest d k n ∙ sym (jump-rests d k n))
 
   formula : (n : ℕ) → tickDeviceTimes n d .block .position ≡ devicePositionAfter n d
@@ -68,13 +69,13 @@ module _ {d : Device} (s : Sound d) where
   jumps : (m n : ℕ) → jumpDevice n (jumpDevice m d) ≡ jumpDevice (m + n) d
   jumps m n =
       by-cases (driven (d .state))
-      (λ k. ap (jumpDevice n) (jump-driven d k m) ∙ jump-driven (withBlock (jumpBlock (isActive d) m (d .block)) d) k n ∙ ap (λ b. withBlock b d) (jumps-add (sound-block s) (isActive d) m n) ∙ sym (jump-driven d k (m + n)))
+      (λ k. ap (jumpDevice n) (jump-driven d k m) ∙ jump-driven (withBlock (jumpBlock (isActive d) m (d .block)) d) k n ∙ ap (λ b. withBlock b d) (jumps-add (block-of-sound s) (isActive d) m n) ∙ sym (jump-driven d k (m + n)))
       (λ k. ap (jumpDevice n) (jump-rests d k m) ∙ jump-rests d k n ∙ sym (jump-rests d k (m + n)))
 
   pub demand3 : Demand3 d
   unfolding devicePositionAfter deviceTicksToGo ticksToGoOf
   demand3 =
-      let of-block = block-demand3 (sound-block s) (isActive d) in
+      let of-block = block-demand3 (block-of-sound s) (isActive d) in
       record {
         ticks = ticks;
         formula = formula;

@@ -9,7 +9,8 @@ use Rattle.ramp.specs.Ramp.{positionAfter}
 use Rattle.block.specs.Target.{targetPosition}
 use Rattle.block.specs.Travel.{rampOf}
 use Rattle.device.specs.States.{driven}
-use Rattle.device.specs.Events.{isActive, tickDeviceTimes, jumpDevice}
+use Rattle.device.specs.Device.{isActive}
+use Rattle.device.specs.Events.{tickDeviceTimes, jumpDevice}
 use Rattle.device.specs.Queries.{deviceTicksToGo}
 use Rattle.device.specs.declared.Device.{Device}
 

@@ -1,4 +1,5 @@
 pub mod States
+pub mod Device
 pub mod Events
 pub mod Queries
 pub mod Sound

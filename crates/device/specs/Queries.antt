@@ -6,20 +6,36 @@ use Rattle.block.specs.Target.{targetOf, targetPosition}
 use Rattle.block.specs.Command.{commandOf}
 use Rattle.block.specs.Travel.{ticksToGoOf}
 use Rattle.device.specs.States.{DISABLED, HOLD, ACTIVE, driven}
-use Rattle.device.specs.Events.{isActive}
+use Rattle.device.specs.Device.{isActive}
 use Rattle.device.specs.declared.Device.{Device}
 
--- 256 while position equals target
-unfoldable pub targetMet : Device → ℕ
-targetMet d = if d .block .position =? targetPosition (isActive d) (d .block) then 256 else 0
+-- the status word of each state
+abbrev pub STATUS-DISABLED : ℕ
+STATUS-DISABLED = 8
 
--- the status word: 8 in DISABLED, 9 in HOLD, 15 in ACTIVE, 0 in FAULT; in HOLD and ACTIVE, 256 is added while position equals target
+abbrev pub STATUS-HOLD : ℕ
+STATUS-HOLD = 9
+
+abbrev pub STATUS-ACTIVE : ℕ
+STATUS-ACTIVE = 15
+
+abbrev pub STATUS-FAULT : ℕ
+STATUS-FAULT = 0
+
+-- what is added in HOLD and ACTIVE while position equals target
+abbrev pub TARGET-MET : ℕ
+TARGET-MET = 256
+
+unfoldable pub targetMet : Device → ℕ
+targetMet d = if d .block .position =? targetPosition (isActive d) (d .block) then TARGET-MET else 0
+
+-- the status word
 unfoldable pub statusOf : Device → ℕ
 statusOf d =
-    if d .state is DISABLED then 8
-    else if d .state is HOLD then 9 + targetMet d
-    else if d .state is ACTIVE then 15 + targetMet d
-    else 0
+    if d .state is DISABLED then STATUS-DISABLED
+    else if d .state is HOLD then STATUS-HOLD + targetMet d
+    else if d .state is ACTIVE then STATUS-ACTIVE + targetMet d
+    else STATUS-FAULT
 
 -- the target in ir; the input is 6300h in ACTIVE and 6314h in the other states
 unfoldable pub deviceTarget : Device → ℤ

@@ -2,27 +2,27 @@
 use mathlib.Core.Bool.{Bool, true, not, _&&_, _||_}
 use mathlib.Core.Path.{_≡_}
 use Prim.Native.Nat.{ℕ}
-use lib.IntN.{ℤ, pos}
-use Rattle.integers.specs.Words.{if_then_else_, _is_, _below_, _=?_}
+use lib.IntN.{pos}
+use Rattle.integers.specs.Words.{if_then_else_, _is_, _=?_}
 use Rattle.block.specs.Sound.{soundBlock}
-use Rattle.device.specs.States.{FAULT, driven}
+use Rattle.device.specs.States.{DISABLED, HOLD, ACTIVE, FAULT, driven}
 use Rattle.device.specs.declared.Device.{Device}
 
--- position 0 in DISABLED and FAULT
-unfoldable pub restsAt : ℕ → ℤ → Bool
-restsAt state position = driven state || position =? pos 0
+-- one of the four device states
+unfoldable pub isState : ℕ → Bool
+isState state = state is DISABLED || state is HOLD || state is ACTIVE || state is FAULT
 
 -- an error code other than 0 exactly in FAULT
 unfoldable pub errorFits : ℕ → ℕ → Bool
 errorFits state error = if state is FAULT then not (error is 0) else error is 0
 
--- one of the four states, a sound block, at rest where it must be, with a fitting error code
+-- position 0 in DISABLED and FAULT
+unfoldable pub rests : Device → Bool
+rests d = driven (d .state) || d .block .position =? pos 0
+
+-- one of the four states, with a fitting error code, at rest where it must be, and a sound block
 unfoldable pub soundDevice : Device → Bool
-soundDevice d =
-    d .state below 4
-    && soundBlock (d .block)
-    && restsAt (d .state) (d .block .position)
-    && errorFits (d .state) (d .error)
+soundDevice d = (isState (d .state) && errorFits (d .state) (d .error)) && rests d && soundBlock (d .block)
 
 -- what the functions of a device ask
 pub record Sound (d : Device) : Type 0 where

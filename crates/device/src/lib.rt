@@ -1,10 +1,14 @@
 // The device: its four states, the control word, faults, ticks and jumps, and what can be asked of it.
 ghost use mathlib.Core.Path.{_≡_};
+ghost use mathlib.Core.Bool.{_&&_};
 ghost use Rattle.device.specs.States.{fromDisabled, fromHold, fromActive, fromFault, nextState};
 ghost use Rattle.device.specs.States as States;
-ghost use Rattle.device.specs.Events.{freshDevice, blockIn, controlled, faulted, tickDevice, jumpDevice};
+ghost use Rattle.device.specs.Device.{freshDevice, withBlock};
+ghost use Rattle.device.specs.Events.{blockIn, errorIn, controlled, faulted, tickDevice, jumpDevice};
+ghost use Rattle.device.specs.Events as Events;
 ghost use Rattle.device.specs.Queries.{targetMet, statusOf, deviceTarget, deviceCommand, deviceTicksToGo};
-ghost use Rattle.device.specs.Sound.{restsAt, errorFits, soundDevice, Sound};
+ghost use Rattle.device.specs.Sound.{isState, errorFits, soundDevice, Sound};
+ghost use Rattle.device.specs.Sound as Sounds;
 use block::Block;
 
 pub struct Device {
@@ -25,6 +29,31 @@ pub const ACTIVE: u8 = 2;
 
 pub const FAULT: u8 = 3;
 
+// The control bits.
+pub const LEAVE_DISABLED: u16 = 1;
+
+pub const LEAVE_HOLD: u16 = 2;
+
+pub const MODE_ACTIVE: u16 = 4;
+
+pub const RESET_FAULT: u16 = 8;
+
+// Bits 0 to 2.
+const ALL_THREE: u16 = LEAVE_DISABLED + LEAVE_HOLD + MODE_ACTIVE;
+
+// The status word of each state, and what is added in HOLD and ACTIVE while the position equals the target.
+pub const STATUS_DISABLED: u16 = 8;
+
+pub const STATUS_HOLD: u16 = 9;
+
+pub const STATUS_ACTIVE: u16 = 15;
+
+pub const STATUS_FAULT: u16 = 0;
+
+pub const TARGET_MET: u16 = 256;
+
+// ---- the parts of a device
+
 // DISABLED, with every object as the table has it fresh.
 pub fn fresh() -> Device
     ensures { λ r. ⌜ r ≡ freshDevice ⌝ }
@@ -38,6 +67,15 @@ pub fn fresh() -> Device
     }
 }
 
+// The device with another block.
+pub fn with_block(device: Device, block: Block) -> Device
+    ensures { λ r. ⌜ r ≡ withBlock block device ⌝ }
+{
+    let mut other = device;
+    other.block = block;
+    other
+}
+
 // The valve is driven in HOLD and ACTIVE.
 fn driven(state: u8) -> bool
     ensures { λ r. ⌜ r ≡ States.driven state ⌝ }
@@ -48,39 +86,43 @@ fn driven(state: u8) -> bool
     }
 }
 
-// Not driven, the valve rests at position 0.
-fn rests_at(state: u8, position: i64) -> bool
-    ensures { λ r. ⌜ r ≡ restsAt state position ⌝ }
-{
-    driven(state) || position == 0
-}
+// ---- soundness
 
-// An error code is there exactly in FAULT.
-fn error_fits(state: u8, error: u16) -> bool
-    ensures { λ r. ⌜ r ≡ errorFits state error ⌝ }
+// One of the four states, of which FAULT is the last, with an error code exactly in FAULT. One test for both, so that the compiler
+// takes the whole of `is_sound` into each call.
+fn state_fits(state: u8, error: u16) -> bool
+    ensures { λ r. ⌜ r ≡ (isState state && errorFits state error) ⌝ }
 {
-    match state {
-        FAULT => error != 0,
-        _ => error == 0,
+    match error {
+        0 => state < FAULT,
+        _ => state == FAULT,
     }
 }
 
+// Not driven, the valve rests at position 0.
+fn rests(device: Device) -> bool
+    ensures { λ r. ⌜ r ≡ Sounds.rests device ⌝ }
+{
+    let block = device.block;
+    driven(device.state) || block.position == 0
+}
+
+// The cheap tests first.
 pub fn is_sound(device: Device) -> bool
     ensures { λ r. ⌜ r ≡ soundDevice device ⌝ }
 {
     let block = device.block;
-    device.state < 4
-        && block::is_sound(block)
-        && rests_at(device.state, block.position)
-        && error_fits(device.state, device.error)
+    state_fits(device.state, device.error) && rests(device) && block::is_sound(block)
 }
+
+// ---- control words and faults
 
 fn from_disabled(word: u16) -> u8
     ensures { λ r. ⌜ r ≡ fromDisabled word ⌝ }
 {
     let bits = word % 2;
     match bits {
-        1 => HOLD,
+        LEAVE_DISABLED => HOLD,
         _ => DISABLED,
     }
 }
@@ -92,7 +134,7 @@ fn from_driven(word: u16) -> u8
 {
     let bits = word % 8;
     match bits {
-        7 => ACTIVE,
+        ALL_THREE => ACTIVE,
         1 | 3 | 5 => HOLD,
         _ => DISABLED,
     }
@@ -102,8 +144,8 @@ fn from_driven(word: u16) -> u8
 fn from_fault(before: u16, word: u16) -> u8
     ensures { λ r. ⌜ r ≡ fromFault before word ⌝ }
 {
-    let was_set = before / 8 % 2;
-    let is_set = word / 8 % 2;
+    let was_set = before / RESET_FAULT % 2;
+    let is_set = word / RESET_FAULT % 2;
     if was_set < is_set { DISABLED } else { FAULT }
 }
 
@@ -119,7 +161,7 @@ fn next_state(state: u8, before: u16, word: u16) -> u8
     }
 }
 
-// Entering DISABLED or FAULT sets the position to 0.
+// In DISABLED and FAULT the position is 0.
 fn block_in(state: u8, block: Block) -> Block
     ensures { λ r. ⌜ r ≡ blockIn state block ⌝ }
 {
@@ -130,38 +172,57 @@ fn block_in(state: u8, block: Block) -> Block
     }
 }
 
+// Only in FAULT there is an error code.
+fn error_in(state: u8, error: u16) -> u16
+    ensures { λ r. ⌜ r ≡ errorIn state error ⌝ }
+{
+    if state == FAULT { error } else { 0 }
+}
+
+// The device as it enters a state, which may be the one that it is in.
+fn entering(device: Device, state: u8) -> Device
+    ensures { λ r. ⌜ r ≡ Events.entering state device ⌝ }
+{
+    let block = device.block;
+    let block = block_in(state, block);
+    let error = error_in(state, device.error);
+    Device {
+        block,
+        state,
+        control: device.control,
+        error,
+    }
+}
+
 // What an accepted control word does.
 pub fn control(device: Device, word: u16) -> Device
     ensures { λ r. ⌜ r ≡ controlled word device ⌝ }
 {
-    let block = device.block;
-    let state = next_state(device.state, device.control, word);
-    let block = block_in(state, block);
-    Device {
-        block: block,
-        state: state,
-        control: word,
-        error: if state == FAULT { device.error } else { 0 },
-    }
+    let mut controlled = entering(device, next_state(device.state, device.control, word));
+    controlled.control = word;
+    controlled
 }
 
-// What a fault report with a code other than 0 does: in FAULT the first code stays.
+// The device with the code of a report: in FAULT the first code stays.
+fn reported(device: Device, code: u16) -> Device
+    ensures { λ r. ⌜ r ≡ Events.reported code device ⌝ }
+{
+    if device.state == FAULT {
+        return device;
+    }
+    let mut reported = device;
+    reported.error = code;
+    reported
+}
+
+// What a fault report with a code other than 0 does.
 pub fn fault(device: Device, code: u16) -> Device
     ensures { λ r. ⌜ r ≡ faulted code device ⌝ }
 {
-    let block = device.block;
-    let block = block_in(FAULT, block);
-    Device {
-        block: block,
-        state: FAULT,
-        control: device.control,
-        error: if device.state == FAULT {
-            device.error
-        } else {
-            code
-        },
-    }
+    entering(reported(device, code), FAULT)
 }
+
+// ---- ticks and jumps
 
 // One tick.
 pub fn tick(device: Device) -> Device
@@ -169,11 +230,8 @@ pub fn tick(device: Device) -> Device
     ensures { λ r. ⌜ r ≡ tickDevice device ⌝ }
 {
     if driven(device.state) {
-        let mut ticked = device;
         let block = device.block;
-        let block = block::tick(block, device.state == ACTIVE);
-        ticked.block = block;
-        ticked
+        with_block(device, block::tick(block, device.state == ACTIVE))
     } else {
         device
     }
@@ -185,15 +243,14 @@ pub fn jump(device: Device, n: u32) -> Device
     ensures { λ r. ⌜ r ≡ jumpDevice n device ⌝ }
 {
     if driven(device.state) {
-        let mut jumped = device;
         let block = device.block;
-        let block = block::jump(block, device.state == ACTIVE, n);
-        jumped.block = block;
-        jumped
+        with_block(device, block::jump(block, device.state == ACTIVE, n))
     } else {
         device
     }
 }
+
+// ---- queries
 
 // The ticks until the target is met: none in DISABLED and FAULT.
 pub fn ticks_to_go(device: Device) -> u32
@@ -237,7 +294,7 @@ fn target_met(device: Device) -> u16
 {
     let block = device.block;
     if block::at_target(block, device.state == ACTIVE) {
-        256
+        TARGET_MET
     } else {
         0
     }
@@ -250,9 +307,9 @@ pub fn status(device: Device) -> u16
 {
     let state = device.state;
     match state {
-        DISABLED => 8,
-        HOLD => 9 + target_met(device),
-        ACTIVE => 15 + target_met(device),
-        _ => 0,
+        DISABLED => STATUS_DISABLED,
+        HOLD => STATUS_HOLD + target_met(device),
+        ACTIVE => STATUS_ACTIVE + target_met(device),
+        _ => STATUS_FAULT,
     }
 }

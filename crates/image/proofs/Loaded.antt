@@ -1,40 +1,46 @@
--- Where the fields start, and what the loop of `settings_in` has read.
-use mathlib.Core.Path.{_≡_, refl, sym, _∙_}
-use mathlib.Core.List.{List}
-use Prim.Native.Nat.{ℕ, suc, _+_, _<_, _≤_}
+-- What the loop of `settings_in` has read: the values in the fields of the places that it passed. Each stands at its place.
+use mathlib.Core.Path.{_≡_, refl, sym, ap, _∙_}
+use mathlib.Core.List.{List, [], _∷_}
+use Prim.Native.Nat.{ℕ, zero, suc, _+_, _<_}
 use native.Mathlib.Numerals.{add-one}
 use native.Mathlib.Omega.{arith}
-use borrow.Author.Tests.{ltb-true}
-use lib.IntN.{ℤ}
-use lib.ListN.{length, take, set, length-set}
-use lib.Seq.{take-suc-set, take-all}
-use Rattle.integers.specs.Words.{each, _below_}
-use Rattle.integers.proofs.Each.{each-at}
-use Rattle.objects.specs.Table.{objects, sizeOf}
-use Rattle.image.specs.Fields.{sizeAt, start}
-use Rattle.image.specs.Asked.{Starts}
+use lib.IntN.{ℤ, pos}
+use lib.ListN.{length, take, set, length-set, length-append, List·getD-append}
+use lib.Seq.{take-suc-set, take-all, getD-append-add}
+use Rattle.integers.proofs.Cases.{by-less}
+use Rattle.objects.specs.Places.{SETTINGS}
+use Rattle.block.specs.Block.{at}
 use Rattle.image.specs.Load.{valueIn, valuesIn, settingsIn}
 
--- the field of a place ends within a full image, and there the next one starts: by a test that is computed over the places
-pub next-starts : {from place : ℕ} → Starts from place → (from + (3 + sizeAt place) ≤ 97) × (from + (3 + sizeAt place) ≡ start (place + 1))
-unfolding each start objects sizeOf
-next-starts {place} s =
-    rw (s .starts, add-one)
-    (omega (arith, ltb-true (start (suc place)) 98 (each-at 17 (λ k. start (suc k) below 98) place refl (s .below))), refl)
-
--- the first k of 17 numbers are those in an image
-pub record Loaded (image : List ℕ) (k : ℕ) (l : List ℤ) : Type 0 where
-  pub long : length l ≡ 17
-  pub so-far : take k l ≡ valuesIn k image
+-- the first k of the settings are those in an image
+pub record Loaded (image : List ℕ) (k : ℕ) (settings : List ℤ) : Type 0 where
+  pub long : length settings ≡ SETTINGS
+  pub so-far : take k settings ≡ valuesIn k image
 
 -- a turn reads one more
-pub loaded-more : {image : List ℕ} {k : ℕ} {l : List ℤ} → Loaded image k l → k < 17 → Loaded image (k + 1) (set l k (valueIn image k))
+pub loaded-next : {image : List ℕ} {k : ℕ} {l : List ℤ} → Loaded image k l → k < SETTINGS → Loaded image (k + 1) (set l k (valueIn image k))
 unfolding valuesIn
-loaded-more {k} {l} s h =
+loaded-next {k} {l} s h =
     let p : k < length l = omega arith in
     record { long = rw length-set (s .long); so-far = rw (add-one, take-suc-set, s .so-far) }
 
 -- after the last turn all are read
-pub loaded-all : {image : List ℕ} {l : List ℤ} → Loaded image 17 l → l ≡ settingsIn image
+pub settings-from-loaded : {image : List ℕ} {l : List ℤ} → Loaded image SETTINGS l → l ≡ settingsIn image
 unfolding settingsIn
-loaded-all {l} s = sym (take-all 17 l (omega arith)) ∙ s .so-far
+settings-from-loaded {l} s = sym (take-all SETTINGS l (omega arith)) ∙ s .so-far
+
+-- ---- the values, as a list
+
+pub values-length : (n : ℕ) (image : List ℕ) → length (valuesIn n image) ≡ n
+unfolding valuesIn
+values-length zero image = refl
+values-length (suc n) image = let a = values-length n image in rw length-append (omega arith)
+
+pub value-at : (n k : ℕ) (image : List ℕ) → k < n → at (valuesIn n image) k ≡ valueIn image k
+unfolding valuesIn
+value-at zero k image h = absurd (omega arith)
+value-at (suc n) k image h =
+    let long = values-length n image in
+    by-less k n
+    (λ l. List·getD-append (valuesIn n image) (valueIn image n ∷ []) (pos 0) k (omega arith) ∙ value-at n k image l)
+    (λ l. let e : k ≡ length (valuesIn n image) + 0 = omega arith in rw (e, getD-append-add) (ap (valueIn image) (omega arith)))

@@ -1,4 +1,4 @@
--- Whatever begins with the first n fields of some settings begins with fewer of them too. So each field stands where the definition says, whatever comes after it.
+-- What begins with the first n fields of some settings begins with fewer of them too. So each field stands where it starts, whatever comes after it.
 use mathlib.Core.Path.{_≡_, sym, subst, _∙_}
 use mathlib.Core.List.{List, [], _++_, append-nil, append-assoc}
 use mathlib.Core.Logic.{⊎-elim}
@@ -6,54 +6,58 @@ use Prim.Native.Nat.{ℕ, zero, suc, _+_, _≤_, _<_}
 use native.Mathlib.Nat.{add-zero, eq-or-lt-of-le}
 use native.Mathlib.Omega.{arith}
 use lib.IntN.{ℤ}
-use lib.ListN.{length, take, drop, length-append, List·getD-append}
-use lib.Seq.{length-take-le, getD-append-add, getD-take, drop-append-add, take-add, take-at}
-use Rattle.coding.specs.Bytes.{twoBytes, fourBytes}
-use Rattle.coding.specs.Coding.{numberOf}
+use lib.ListN.{length, take, drop, length-append}
+use lib.Seq.{getD-drop, drop-drop, drop-at, take-at}
+use Rattle.objects.specs.Places.{SETTINGS}
+use Rattle.coding.specs.Bytes.{byteAt, twoBytes}
 use Rattle.coding.proofs.Bytes.{two-back}
-use Rattle.block.specs.Target.{at}
-use Rattle.image.specs.Fields.{sizeAt, start, longField, fieldOf, fields, imageOf}
-use Rattle.image.proofs.Stored.{size-most, length-field, length-fields}
-use Rattle.image.specs.Load.{byte}
-use Rattle.image.specs.Walk.{endAt}
+use Rattle.block.specs.Block.{at}
+use Rattle.image.specs.Fields.{HEADER, tagOf, sizeAt, start, valueBytes, fieldOf, fields, imageOf}
+use Rattle.image.specs.Load.{lengthAt}
+use Rattle.image.proofs.Lengths.{sized, size-most, length-value, length-fields}
 
 pub record Begins (image : List ℕ) (settings : List ℤ) (n : ℕ) : Type 0 where
   pub rest : List ℕ
   pub same : image ≡ fields n settings ++ rest
 
-pub image-begins : (settings : List ℤ) → Begins (imageOf settings) settings 17
-unfolding imageOf
-image-begins settings = record { rest = []; same = sym (append-nil _) }
-
-pub fewer : {image : List ℕ} {settings : List ℤ} (k n : ℕ) → k ≤ n → Begins image settings n → Begins image settings k
+begins-with-fewer : {image : List ℕ} {settings : List ℤ} (k n : ℕ) → k ≤ n → Begins image settings n → Begins image settings k
 unfolding fields
-fewer k zero h b = subst (Begins _ _) (omega arith) b
-fewer {settings} k (suc n) h b =
+begins-with-fewer k zero h b = subst (Begins _ _) (omega arith) b
+begins-with-fewer {settings} k (suc n) h b =
     ⊎-elim (λ (e : k ≡ suc n). subst (Begins _ _) (sym e) b)
-    (λ (l : k < suc n). fewer k n (omega arith) (record { rest = fieldOf n (at settings n) ++ b .rest; same = b .same ∙ simp append-assoc }))
+    (λ (l : k < suc n). begins-with-fewer k n (omega arith) (record { rest = fieldOf n (at settings n) ++ b .rest; same = b .same ∙ simp append-assoc }))
     (eq-or-lt-of-le h)
 
--- ---- the field of a place, in what begins with it and those before it
+-- an image begins with the field of a setting and those before it
+pub image-begins : (settings : List ℤ) (place : ℕ) → place < SETTINGS → Begins (imageOf settings) settings (suc place)
+unfolding imageOf
+image-begins settings place h = begins-with-fewer (suc place) SETTINGS h (record { rest = []; same = sym (append-nil _) })
+
+-- ---- the field of a setting, in what begins with it and those before it
 module _ {image : List ℕ} {settings : List ℤ} {place : ℕ} (b : Begins image settings (suc place)) where
-  pub within : start (suc place) ≤ length image
-  within = rw (b .same, length-append) (omega (arith, length-fields (suc place) settings))
+  pub without-last : Begins image settings place
+  without-last = begins-with-fewer place (suc place) (omega arith) b
 
-  pub byte-in : (j : ℕ) → j < 3 + sizeAt place → byte image (start place + j) ≡ byte (longField place (sizeAt place) (numberOf (sizeAt place) (at settings place))) j
-  unfolding fields fieldOf
-  byte-in j h =
-      let inside : j < length (fieldOf place (at settings place)) = omega (arith, length-field place (at settings place)) in
-      rw (b .same, ← length-fields place settings, append-assoc, getD-append-add, List·getD-append, fieldOf, getD-take)
+  pub next-within : start (suc place) ≤ length image
+  next-within = rw (b .same, length-append) (omega (arith, length-fields (suc place) settings))
 
-  pub tag-in : byte image (start place) ≡ place + 1
-  tag-in = rw (← add-zero (start place)) (byte-in 0 (omega arith))
+  from-start : drop (start place) image ≡ fieldOf place (at settings place) ++ b .rest
+  unfolding fields
+  from-start = rw (b .same, append-assoc) (drop-at (fields place settings) _ (start place) (length-fields place settings))
 
-  pub end-in : endAt image (start place) ≡ start place + 3 + sizeAt place
-  unfolding twoBytes
-  end-in = omega (arith, byte-in 1 (omega arith), byte-in 2 (omega arith), two-back {n = sizeAt place} (omega (arith, size-most place)))
+  byte-in : (j : ℕ) → byteAt image (start place + j) ≡ byteAt (fieldOf place (at settings place) ++ b .rest) j
+  byte-in j = rw (← getD-drop (start place) image j 0, from-start)
 
-  pub value-at : take (sizeAt place) (drop (start place + 3) image) ≡ take (sizeAt place) (fourBytes (numberOf (sizeAt place) (at settings place)))
-  unfolding fields fieldOf twoBytes fourBytes
-  value-at =
-      let four = fourBytes (numberOf (sizeAt place) (at settings place)) in
-      let cut = length-take-le (sizeAt place) four (size-most place) in
-      rw (b .same, ← length-fields place settings, append-assoc, drop-append-add, fieldOf, take-add 3 (sizeAt place)) (take-at (take (sizeAt place) four) (b .rest) (sizeAt place) cut)
+  pub tag-in : byteAt image (start place) ≡ tagOf place
+  unfolding fieldOf
+  tag-in = rw (← add-zero (start place)) (byte-in 0)
+
+  pub length-in : lengthAt image (start place) ≡ sizeAt place
+  unfolding fieldOf twoBytes
+  length-in = rw (byte-in 1, byte-in 2) (two-back {n = sizeAt place} (omega (arith, size-most (sized place))))
+
+  pub value-in : take (sizeAt place) (drop (start place + HEADER) image) ≡ valueBytes place (at settings place)
+  unfolding fieldOf twoBytes
+  value-in =
+      rw (← drop-drop HEADER (start place) image, from-start)
+      (take-at (valueBytes place (at settings place)) (b .rest) (sizeAt place) (length-value place (at settings place)))

@@ -3,25 +3,25 @@ use mathlib.Core.List.{List, []}
 use Prim.Native.Nat.{ℕ, zero, suc, _+_, _-_}
 use lib.ListN.{length, take, drop}
 use Rattle.integers.specs.Words.{if_then_else_, _is_, _below_}
-use Rattle.coding.specs.Bytes.{twoOf}
-use Rattle.image.specs.Load.{byte}
+use Rattle.coding.specs.Bytes.{byteAt}
+use Rattle.image.specs.Fields.{HEADER}
+use Rattle.image.specs.Load.{lengthAt}
 use Rattle.image.specs.declared.Found.{Found}
-use Rattle.image.specs.declared.Found.the-variants.{At, Cut, Missing}
+use Rattle.image.specs.declared.Found.the-variants.{Part, Cut, Ended}
 
--- where the value of the field at a place ends: after its tag, its length and so many bytes
+-- where the field at k ends: after its header and its value
 abbrev pub endAt : List ℕ → ℕ → ℕ
-endAt image k = k + 3 + twoOf (byte image (k + 1)) (byte image (k + 2))
+endAt image k = k + HEADER + lengthAt image k
 
--- the walk from a place on: past the last field it has ended cleanly; a header or a value cut short; the field so tagged; else on after it
+-- the walk from k on, over so many fields: it has ended; a header or a value is cut short; the field so tagged; else on after it
 unfoldable pub walkFrom : ℕ → List ℕ → ℕ → ℕ → Found
-walkFrom zero image tag k = Missing
+walkFrom zero image tag k = Ended
 walkFrom (suc fields) image tag k =
-    let later = walkFrom fields image tag (endAt image k) in
-    if length image below (k + 1) then Missing
-    else if length image below (k + 3) then Cut
+    if length image below (k + 1) then Ended
+    else if length image below (k + HEADER) then Cut
     else if length image below endAt image k then Cut
-    else if byte image k is tag then At (k + 3) (endAt image k)
-    else later
+    else if byteAt image k is tag then Part (k + HEADER) (endAt image k)
+    else walkFrom fields image tag (endAt image k)
 
 -- the walk from the start; there are fewer fields than bytes
 unfoldable pub walk : List ℕ → ℕ → Found
@@ -29,18 +29,26 @@ walk image tag = walkFrom (suc (length image)) image tag 0
 
 -- the part of an image that was found; a refused search has none
 abbrev pub partOf : List ℕ → Found → List ℕ
-partOf image (At from end) = take (end - from) (drop from image)
+partOf image (Part from end) = take (end - from) (drop from image)
 partOf image Cut = []
-partOf image Missing = []
+partOf image Ended = []
 
 -- how far into the image that part begins
 abbrev pub beginOf : Found → ℕ
-beginOf (At from end) = from
+beginOf (Part from end) = from
 beginOf Cut = 0
-beginOf Missing = 0
+beginOf Ended = 0
 
--- the number handed back: 7 for a field cut short, 10 for a walk that ended cleanly
+-- the number of a field cut short
+abbrev pub FIELD-CUT : ℕ
+FIELD-CUT = 7
+
+-- the number of a walk that ended
+abbrev pub NOT-FOUND : ℕ
+NOT-FOUND = 10
+
+-- the number handed back
 abbrev pub codeOf : Found → ℕ
-codeOf (At from end) = 0
-codeOf Cut = 7
-codeOf Missing = 10
+codeOf (Part from end) = 0
+codeOf Cut = FIELD-CUT
+codeOf Ended = NOT-FOUND

@@ -1,35 +1,31 @@
 // The stored parameter image: a store, a load, and the search for a tag in any slice.
 ghost use mathlib.Core.Path.{_≡_};
-ghost use Prim.Native.Nat.{_+_, _<_, _≤_};
-ghost use lib.ListN.{length, getD};
+ghost use Prim.Native.Nat.{_+_};
 ghost use lib.Seq.{paste};
-ghost use Rattle.image.specs.Fields.{sizeAt, longField, fieldOf, storedIn};
+ghost use Rattle.block.specs.Asked.{ASetting};
+ghost use Rattle.image.specs.Fields.{fieldLength, longField, fieldOf, storedIn};
 ghost use Rattle.image.specs.Load.{headAt, isFull, fourAt, valueIn, settingsIn};
 ghost use Rattle.image.specs.Walk.{walk, partOf, beginOf, codeOf};
-ghost use Rattle.image.specs.Asked.{Storing, Putting, Starts, Walked};
+ghost use Rattle.image.specs.Asked.{Storing, Near, Putting, Starts, Walked};
 use objects::SETTINGS;
 
 pub const IMAGE_LENGTH: usize = 97;
 
 // What a walk over the fields meets: the field so tagged, whose value is from..end; a field cut short; the end.
 pub enum Found {
-    At { from: usize, end: usize },
+    Part { from: usize, end: usize },
     Cut,
-    Missing,
-}
-
-// The byte at a place; past the end it is 0.
-fn byte_at(image: &[u8], k: usize) -> u8
-    ensures { λ r. ⌜ r ≡ getD (now (image .entry)) k 0 ⌝ }
-{
-    if k < image.len() { image[k] } else { 0 }
+    Ended,
 }
 
 // ---- storing
 
+// A field's tag and length.
+const HEADER: usize = 3;
+
 // A field with room for the longest value: the tag, the length of the value, and four bytes of its number.
 fn field(place: usize, size: u8, number: u32) -> [u8; 7]
-    requires { ⌜ place < 17 ⌝ }
+    requires { ⌜ ASetting place ⌝ }
     ensures { λ r. ⌜ r ≡ longField place size number ⌝ }
 {
     [
@@ -43,40 +39,30 @@ fn field(place: usize, size: u8, number: u32) -> [u8; 7]
     ]
 }
 
-// The first n bytes go to the room from a place on; all others stay.
-fn put(room: &mut [u8], from: usize, bytes: [u8; 7], n: usize)
-    requires { ⌜ (n ≤ 7) × (from + n ≤ length (now room)) ⌝ }
-    ensures { λ _. ⌜ now (room .exit) ≡ paste (now (room .entry)) from bytes n ⌝ }
-{
-    let mut i = 0;
-    while i < n {
-        room[from + i] = bytes[i];
-        i += 1;
-    }
-}
-
 // The field of a setting goes to the room from where it starts.
 fn put_field(room: &mut [u8], from: usize, place: usize, value: i64)
     requires { ⌜ Putting (now room) from place value ⌝ }
-    ensures { λ _. ⌜ now (room .exit) ≡ paste (now (room .entry)) from (fieldOf place value) (3 + sizeAt place) ⌝ }
+    ensures { λ _. ⌜ now (room .exit) ≡ paste (now (room .entry)) from (fieldOf place value) (fieldLength place) ⌝ }
 {
     let row = objects::row_at(place);
     let size = row.size;
     let number = coding::number_of(size, value);
-    put(room, from, field(place, size, number), 3 + size as usize);
+    let bytes = field(place, size, number);
+    let n = HEADER + size as usize;
+    coding::put(room, from, &bytes[..n]);
 }
 
 // The length of the field of a setting.
 fn field_length(place: usize) -> usize
-    requires { ⌜ place < 17 ⌝ }
-    ensures { λ r. ⌜ r ≡ 3 + sizeAt place ⌝ }
+    requires { ⌜ ASetting place ⌝ }
+    ensures { λ r. ⌜ r ≡ fieldLength place ⌝ }
 {
     let row = objects::row_at(place);
-    3 + row.size as usize
+    HEADER + row.size as usize
 }
 
-// The image of sound settings goes to the first 97 bytes of the room; later bytes stay.
-pub fn store(settings: [i64; 17], room: &mut [u8])
+// The image of sound settings goes to the first bytes of the room; later bytes stay.
+pub fn store(settings: [i64; SETTINGS], room: &mut [u8])
     requires { ⌜ Storing settings (now room) ⌝ }
     ensures { λ _. ⌜ now (room .exit) ≡ storedIn settings (now (room .entry)) ⌝ }
 {
@@ -98,11 +84,14 @@ fn head_at(image: &[u8], from: usize, place: usize) -> bool
     ensures { λ r. ⌜ r ≡ headAt (now (image .entry)) place ⌝ }
 {
     let row = objects::row_at(place);
-    let length = coding::two_of(byte_at(image, from + 1), byte_at(image, from + 2));
-    byte_at(image, from) as usize == place + 1 && length == row.size as u16
+    let length = coding::two_of(
+        coding::byte_at(image, from + 1),
+        coding::byte_at(image, from + 2),
+    );
+    coding::byte_at(image, from) as usize == place + 1 && length == row.size as u16
 }
 
-// Each tag once, ascending, with the length of its type: 97 bytes and no more.
+// Each tag once, ascending, with the length of its type, and no more.
 pub fn is_full(image: &[u8]) -> bool
     ensures { λ r. ⌜ r ≡ isFull (now (image .entry)) ⌝ }
 {
@@ -123,14 +112,14 @@ pub fn is_full(image: &[u8]) -> bool
 
 // Four bytes from a place on, as a number low first.
 fn four_at(image: &[u8], k: usize) -> u32
-    requires { ⌜ k < 1000 ⌝ }
+    requires { ⌜ Near k ⌝ }
     ensures { λ r. ⌜ r ≡ fourAt (now (image .entry)) k ⌝ }
 {
     coding::four_of(
-        byte_at(image, k),
-        byte_at(image, k + 1),
-        byte_at(image, k + 2),
-        byte_at(image, k + 3),
+        coding::byte_at(image, k),
+        coding::byte_at(image, k + 1),
+        coding::byte_at(image, k + 2),
+        coding::byte_at(image, k + 3),
     )
 }
 
@@ -140,14 +129,14 @@ fn value_in(image: &[u8], from: usize, place: usize) -> i64
     ensures { λ r. ⌜ r ≡ valueIn (now (image .entry)) place ⌝ }
 {
     let row = objects::row_at(place);
-    coding::value_of(row.size, row.signed, four_at(image, from + 3))
+    coding::value_of(row.size, row.signed, four_at(image, from + HEADER))
 }
 
 // The settings in an image, sound or not.
-pub fn settings_in(image: &[u8]) -> [i64; 17]
+pub fn settings_in(image: &[u8]) -> [i64; SETTINGS]
     ensures { λ r. ⌜ r ≡ settingsIn (now (image .entry)) ⌝ }
 {
-    let mut settings = [0i64; 17];
+    let mut settings = [0i64; SETTINGS];
     let mut place = 0;
     let mut from = 0;
     while place < SETTINGS {
@@ -167,21 +156,21 @@ fn locate(image: &[u8], tag: u8) -> Found
 {
     let mut k = 0;
     while k < image.len() {
-        if image.len() - k < 3 {
+        if image.len() - k < HEADER {
             return Found::Cut;
         }
-        let from = k + 3;
+        let from = k + HEADER;
         let length = coding::two_of(image[k + 1], image[k + 2]) as usize;
         if image.len() - from < length {
             return Found::Cut;
         }
         let end = from + length;
         if image[k] == tag {
-            return Found::At { from, end };
+            return Found::Part { from, end };
         }
         k = end;
     }
-    Found::Missing
+    Found::Ended
 }
 
 // The value bytes of the first field so tagged, as a part of the caller's own slice; empty where there is none.
@@ -190,19 +179,24 @@ pub fn find(image: &[u8], tag: u8) -> &[u8]
     ensures { λ r. ⌜ (r .ptr .0 ≡ image .entry .ptr .0) × (r .ptr .1 ≡ image .entry .ptr .1 + beginOf (walk (now (image .entry)) tag)) ⌝ }
 {
     match locate(image, tag) {
-        Found::At { from, end } => &image[from..end],
+        Found::Part { from, end } => &image[from..end],
         Found::Cut => &image[..0],
-        Found::Missing => &image[..0],
+        Found::Ended => &image[..0],
     }
 }
 
-// The number of a search: 0 found, 7 a field cut short, 10 not found.
+// The numbers of a refused search.
+pub const FIELD_CUT: u8 = 7;
+
+pub const NOT_FOUND: u8 = 10;
+
+// The number of a search: 0 where the tag is found.
 pub fn find_code(image: &[u8], tag: u8) -> u8
     ensures { λ r. ⌜ r ≡ codeOf (walk (now (image .entry)) tag) ⌝ }
 {
     match locate(image, tag) {
-        Found::At { from: _, end: _ } => 0,
-        Found::Cut => 7,
-        Found::Missing => 10,
+        Found::Part { from: _, end: _ } => 0,
+        Found::Cut => FIELD_CUT,
+        Found::Ended => NOT_FOUND,
     }
 }

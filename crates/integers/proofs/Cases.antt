@@ -1,7 +1,7 @@
 -- A test has two outcomes: what is shown from each holds. Laws on a choice by a test, and on two tests that agree.
 use mathlib.Core.Path.{_≡_, refl, sym, _∙_}
 use mathlib.Core.Bool.{Bool, true, false, cond, true≢false}
-use Prim.Native.Nat.{ℕ, _≤_, _<_}
+use Prim.Native.Nat.{ℕ, zero, suc, _≤_, _<_}
 use native.Mathlib.Omega.{arith}
 use borrow.Author.Tests.{ltb-true, ltb-false, lt-ltb, le-ltb}
 use lib.Dec.{ltb}
@@ -28,6 +28,13 @@ by-less-ℤ a b f g = by-cases (ltZ a b) (λ e. f (omega (arith, ints))) (λ e. 
 pub clash {ℓ} : {X : Type ℓ} {t : Bool} → t ≡ true → t ≡ false → X
 clash e f = absurd (true≢false (sym e ∙ f))
 
+-- nor are two constructors equal: of two values that should be, `cc` shows 0 equal to 1
+pub apart {ℓ} : {X : Type ℓ} → _≡_ {A = ℕ} 0 1 → X
+apart e = absurd (never e)
+  where
+    never : _≡_ {A = ℕ} 0 1 → ⊥
+    never e = omega arith
+
 -- two tests agree where each outcome of the first is the second's
 pub ltb-same : (a b c d : ℕ) → (a < b → c < d) → (b ≤ a → d ≤ c) → ltb c d ≡ ltb a b
 ltb-same a b c d f g = by-less a b (λ h. lt-ltb c d (f h) ∙ sym (lt-ltb a b h)) (λ h. le-ltb c d (g h) ∙ sym (le-ltb a b h))
@@ -37,3 +44,12 @@ ltZ-same a b c d f g =
     by-cases (ltZ a b)
     (λ e. let k : c <ℤ d = f (omega (arith, ints)) in sym (e ∙ sym (omega (arith, ints))))
     (λ e. let k : d ≤ℤ c = g (omega (arith, ints)) in sym (e ∙ sym (omega (arith, ints))))
+
+-- p is none of the numbers below n, as the last arm of a `match` over them has it
+abbrev pub NoneBelow : ℕ → ℕ → Type 0
+NoneBelow p zero = Unit {0}
+NoneBelow p (suc n) = NoneBelow p n × (p ≡ n → ⊥)
+
+pub none-below : (n p : ℕ) → NoneBelow p n → n ≤ p
+none-below zero p h = omega arith
+none-below (suc n) p h = let k = none-below n p (h .0) in let l : p ≡ n → ⊥ = h .1 in omega arith

@@ -1,7 +1,7 @@
 // The judging of cases, each a record of 16 bytes: a request and its expected reply. No input is refused.
 ghost use mathlib.Core.Path.{_≡_};
-ghost use lib.ListN.{length};
-ghost use Rattle.judging.specs.Judging.{same, oneMore, failedAfter, freshTally, judgedCase, judgedAll};
+ghost use Rattle.sdo.specs.Asked.{EightBytes};
+ghost use Rattle.judging.specs.Judging.{same, oneMore, failedAfter, freshTally, judgedCase, judgedAll, ACase};
 ghost use Rattle.judging.specs.Judging as Judging;
 use device::Device;
 use sdo::Outcome;
@@ -36,7 +36,7 @@ fn one_more(count: u64) -> u64
 
 // Eight bytes, each the same.
 fn is_same(reply: [u8; 8], expected: &[u8]) -> bool
-    requires { ⌜ length (now expected) ≡ 8 ⌝ }
+    requires { ⌜ EightBytes (now expected) ⌝ }
     ensures { λ r. ⌜ r ≡ same reply (now (expected .entry)) ⌝ }
 {
     let mut k = 0;
@@ -51,7 +51,7 @@ fn is_same(reply: [u8; 8], expected: &[u8]) -> bool
 
 // A case passes where a reply is due and is the expected one.
 fn passes(outcome: Outcome, reply: [u8; 8], expected: &[u8]) -> bool
-    requires { ⌜ length (now expected) ≡ 8 ⌝ }
+    requires { ⌜ EightBytes (now expected) ⌝ }
     ensures { λ r. ⌜ r ≡ Judging.passes outcome reply (now (expected .entry)) ⌝ }
 {
     if sdo::is_due(outcome) {
@@ -70,7 +70,7 @@ fn failed_after(failed: u64, passes: bool) -> u64
 
 // One case more.
 fn judge(tally: Tally, case: &[u8]) -> Tally
-    requires { ⌜ length (now case) ≡ 16 ⌝ }
+    requires { ⌜ ACase (now case) ⌝ }
     ensures { λ r. ⌜ r ≡ judgedCase (now (case .entry)) tally ⌝ }
 {
     let device = tally.device;

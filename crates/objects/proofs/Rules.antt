@@ -1,15 +1,17 @@
 -- The table's rules, each by a test that is computed over the rows.
 use mathlib.Core.Path.{_≡_, refl, ap, _∙_}
-use mathlib.Core.Bool.{Bool, true, false}
+use mathlib.Core.Bool.{Bool, true, false, not, cond, _||_}
 use mathlib.Core.List.{List, [], _∷_}
 use Prim.Native.Nat.{ℕ, suc, _+_, _-_, _≤_, _<_}
 use native.Mathlib.Omega.{arith}
-use borrow.Author.Tests.{eqb-true, ne-eqb}
+use borrow.Author.Tests.{eqb-true, ne-eqb, ltb-true}
 use Rattle.integers.specs.Words.{each, _is_}
 use lib.ListN.{length}
-use Rattle.integers.proofs.Cases.{by-cases}
+use Rattle.integers.proofs.Cases.{by-cases, apart}
 use Rattle.integers.proofs.Each.{each-at}
-use Rattle.objects.specs.Table.{objects, rowAt}
+use lib.Dec.{ltb}
+use Rattle.objects.specs.Places.{WRITABLE, ROWS}
+use Rattle.objects.specs.Table.{I8, U32, objects, columnsAt, rowAt}
 use Rattle.objects.specs.Lookup.{placeFrom, placeOf}
 use Rattle.objects.specs.declared.Columns.{Columns}
 use Rattle.objects.specs.declared.Place.{Place}
@@ -24,9 +26,9 @@ is-at (At place) k e = ap At (eqb-true place k e)
 is-at Nowhere k e = let z : false ≡ true = e in cc
 
 -- each row is found by its index
-pub each-row-is-found : (k : ℕ) → k < 22 → placeOf (rowAt k .index) ≡ At k
+pub each-row-is-found : (k : ℕ) → k < ROWS → placeOf (rowAt k .index) ≡ At k
 unfolding each placeOf placeFrom objects
-each-row-is-found k h = is-at (placeOf (rowAt k .index)) k (each-at 22 (λ k. isAt (placeOf (rowAt k .index)) k) k refl h)
+each-row-is-found k h = is-at (placeOf (rowAt k .index)) k (each-at ROWS (λ k. isAt (placeOf (rowAt k .index)) k) k refl h)
 
 -- a run of n consecutive indexes, in consecutive rows: the test over it is computed
 pub run-is-found : (place from n : ℕ) → each n (λ j. isAt (placeOf (from + j)) (place + j)) ≡ true → (index : ℕ) → from ≤ index → index < from + n → placeOf index ≡ At (place + (index - from))
@@ -52,15 +54,31 @@ no-other-index index h = absent-from 0 objects index h
 -- a place that was found is within the table
 below-from : (place : ℕ) (rows : List Columns) (index k : ℕ) → placeFrom place rows index ≡ At k → k < place + length rows
 unfolding placeFrom
-below-from place [] index k e = absurd (nowhere e)
-  where
-    nowhere : Nowhere ≡ At k → ⊥
-    nowhere e = let z : _≡_ {A = ℕ} 0 1 = cc in omega arith
+below-from place [] index k e = apart (cc)
 below-from place (row ∷ rows) index k e =
     by-cases (row .0 is index)
     (λ f. let z : At place ≡ At k = (rw f at e) in let s : place ≡ k = cc in omega arith)
     (λ f. omega (arith, below-from (suc place) rows index k (rw f at e)))
 
-pub found-below : (index k : ℕ) → placeOf index ≡ At k → k < 22
+pub found-below : (index k : ℕ) → placeOf index ≡ At k → k < ROWS
 unfolding placeOf objects
 found-below index k e = below-from 0 objects index k e
+
+-- only the first rows can be written
+pub writable-below : (place : ℕ) → place < ROWS → rowAt place .writable ≡ true → place < WRITABLE
+unfolding each objects
+writable-below place h e = ltb-true place WRITABLE (rw e at (each-at ROWS (λ k. not (rowAt k .writable) || ltb k WRITABLE) place refl h))
+
+-- and all of those
+pub below-writable : (place : ℕ) → place < WRITABLE → rowAt place .writable ≡ true
+unfolding each objects
+below-writable place h = each-at WRITABLE (λ k. rowAt k .writable) place refl h
+
+-- a type's bytes
+abbrev typeSize : ℕ → ℕ
+typeSize kind = cond (kind is I8) 1 (cond (kind is U32) 4 2)
+
+-- the size of each row is that of its type
+pub size-of-type : (place : ℕ) → place < ROWS → rowAt place .size ≡ typeSize (columnsAt place .2)
+unfolding each objects
+size-of-type place h = eqb-true _ _ (each-at ROWS (λ k. rowAt k .size is typeSize (columnsAt k .2)) place refl h)

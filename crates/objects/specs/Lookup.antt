@@ -20,12 +20,19 @@ placeFrom place (row ∷ rows) index =
 unfoldable pub placeOf : ℕ → Place
 placeOf index = placeFrom 0 objects index
 
--- a variable has sub-index 0 only; a record has its number of entries at 0 and its value at 1; a time has its unit at 2, 03h (s), and its prefix at 3, -3 (milli)
+-- the unit of a time, 03h (s), and its prefix, -3 (milli), as a byte
+abbrev pub SECONDS : ℕ
+SECONDS = 0x03
+
+abbrev pub MILLI : ℕ
+MILLI = 0xFD
+
+-- a variable has sub-index 0 only; a record has its number of entries at 0 and its value at 1; a time has its unit at 2 and its prefix at 3
 unfoldable pub entryAt : ℕ → ℕ → Entry
 entryAt entries sub =
     if entries is VARIABLE then (if sub is 0 then Value else Missing)
     else if entries below sub then Missing
     else if sub is 0 then Fixed entries
     else if sub is 1 then Value
-    else if sub is 2 then Fixed 0x03
-    else Fixed 0xFD
+    else if sub is 2 then Fixed SECONDS
+    else Fixed MILLI

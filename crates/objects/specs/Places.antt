@@ -1,4 +1,5 @@
--- The places of the objects in the table: the 17 stored settings in tag order (a tag is the place and one), then the others.
+-- The places of the objects in the table: first the stored settings, in tag order (a tag is the place and one),
+-- then the others that can be written, then those that are read only.
 use Prim.Native.Nat.{ℕ}
 
 abbrev pub HOLD-SET-POINT : ℕ
@@ -67,9 +68,12 @@ ERROR-CODE = 20
 abbrev pub COMMAND : ℕ
 COMMAND = 21
 
--- how many objects are stored settings, and how many there are in all
+-- how many are stored settings, how many can be written, and how many there are
 abbrev pub SETTINGS : ℕ
 SETTINGS = 17
+
+abbrev pub WRITABLE : ℕ
+WRITABLE = 19
 
 abbrev pub ROWS : ℕ
 ROWS = 22

@@ -4,66 +4,63 @@ use mathlib.Core.List.{List}
 use mathlib.Core.Logic.{_≢_}
 use mathlib.Core.Path.{_≡_, refl}
 use Prim.Native.Nat.{ℕ, _≤_}
-use native.Mathlib.Omega.{arith}
 use borrow.Author.Tests.{not-false, le-ltb}
 use lib.Dec.{eqb}
 use lib.ListN.{length, take}
 use lib.Seq.{take-append-seam}
-use Rattle.integers.proofs.Cases.{by-test}
+use Rattle.integers.proofs.Cases.{by-test, apart}
 use Rattle.block.specs.Sound.{soundSettings}
-use Rattle.block.proofs.Sound.{SoundSettings, sound-block, block-sound, sound-settings, settings-sound}
+use Rattle.block.proofs.Sound.{SettingsParts, block-parts, settings-parts, settings-from-parts, with-settings-sound}
 use Rattle.device.specs.States.{DISABLED}
 use Rattle.device.specs.Sound.{soundDevice, Sound}
 use Rattle.device.specs.declared.Device.{Device}
-use Rattle.device.proofs.Laws as Devices
-use Rattle.image.specs.Fields.{imageOf, storedIn}
+use Rattle.device.proofs.Laws.{block-of-sound, with-block-sound, position-rests}
+use Rattle.image.specs.Fields.{IMAGE-LENGTH, imageOf, storedIn}
 use Rattle.image.specs.Load.{isFull, settingsIn}
 use Rattle.image.proofs.Trip.{Bytes, image-length, image-is-full, settings-stored, image-read}
-use Rattle.rainsheave.specs.Calls.{change, storeAnswer, storeRoom, withSettings, loadAnswer}
+use Rattle.rainsheave.specs.Numbers.{UNSOUND, NOT-FULL, BAD-VALUE, NOT-DISABLED}
+use Rattle.rainsheave.specs.Calls.{change, storeAnswer, storeRoom, loaded, loadAnswer}
 use Rattle.rainsheave.specs.declared.Report.the-variants.{Done, Refused}
 use Rattle.rainsheave.specs.declared.Change.{Change}
 
 -- the settings of a sound device are sound
-settings-of : {d : Device} → Sound d → SoundSettings (d .block .settings)
-settings-of s = sound-block (Devices.sound-block s) .settings
+settings-of : {d : Device} → Sound d → SettingsParts (d .block .settings)
+settings-of s = block-parts (block-of-sound s) .settings
 
 pub settings-are-sound : {d : Device} → Sound d → soundSettings (d .block .settings) ≡ true
-settings-are-sound {d} s = settings-sound (d .block .settings) (settings-of s)
+settings-are-sound {d} s = settings-from-parts (d .block .settings) (settings-of s)
 
 -- ---- the settings come back
 
 -- storing a sound device and loading the image into a sound disabled one: the settings of the first, and all else of the second
-pub round-trip : {d e : Device} → Sound d → Sound e → e .state ≡ DISABLED → loadAnswer e (imageOf (d .block .settings)) ≡ change Done (withSettings (d .block .settings) e)
+pub round-trip : {d e : Device} → Sound d → Sound e → e .state ≡ DISABLED → loadAnswer e (imageOf (d .block .settings)) ≡ change Done (loaded (d .block .settings) e)
 unfolding loadAnswer
 round-trip {d} {e} s t h =
     rw (t .sound, h, image-is-full (d .block .settings), settings-stored (settings-of s), settings-are-sound s)
 
--- a store with room enough leaves the image in the first 97 bytes
-pub store-leaves-image : {d : Device} → Sound d → (room : List ℕ) → 97 ≤ length room → take 97 (storeRoom d room) ≡ imageOf (d .block .settings)
+-- a store with room enough leaves the image in the room's first bytes
+pub store-leaves-image : {d : Device} → Sound d → (room : List ℕ) → IMAGE-LENGTH ≤ length room → take IMAGE-LENGTH (storeRoom d room) ≡ imageOf (d .block .settings)
 unfolding storeRoom storeAnswer storedIn
 store-leaves-image {d} s room h =
-    rw (s .sound, le-ltb (length room) 97 h, ← image-length (d .block .settings)) (take-append-seam (imageOf (d .block .settings)) _)
+    rw (s .sound, le-ltb (length room) IMAGE-LENGTH h, ← image-length (d .block .settings)) (take-append-seam (imageOf (d .block .settings)) _)
 
 -- ---- a load by its cases
 
 -- what holds of a refusal, which hands the device back, and of a load done holds of the answer
-by-load : (P : Change → Type 0) (d : Device) (image : List ℕ) → ((number : ℕ) → P (change (Refused number) d)) → (isFull image ≡ true → soundSettings (settingsIn image) ≡ true → P (change Done (withSettings (settingsIn image) d))) → P (loadAnswer d image)
+by-load : (P : Change → Type 0) (d : Device) (image : List ℕ) → ((number : ℕ) → P (change (Refused number) d)) → (isFull image ≡ true → soundSettings (settingsIn image) ≡ true → P (change Done (loaded (settingsIn image) d))) → P (loadAnswer d image)
 unfolding loadAnswer
 by-load P d image refused done =
     by-test P (soundDevice d)
-    (λ e. by-test P (not (eqb (d .state) DISABLED)) (λ f. refused 9)
-    (λ f. by-test P (not (isFull image)) (λ g. refused 7)
-    (λ g. by-test P (not (soundSettings (settingsIn image))) (λ h. refused 8) (λ h. done (not-false _ g) (not-false _ h)))))
-    (λ e. refused 1)
-
-not-done : (number : ℕ) → Refused number ≢ Done
-not-done number e = let z : _≡_ {A = ℕ} 0 1 = cc in omega arith
+    (λ e. by-test P (not (eqb (d .state) DISABLED)) (λ f. refused NOT-DISABLED)
+    (λ f. by-test P (not (isFull image)) (λ g. refused NOT-FULL)
+    (λ g. by-test P (not (soundSettings (settingsIn image))) (λ h. refused BAD-VALUE) (λ h. done (not-false _ g) (not-false _ h)))))
+    (λ e. refused UNSOUND)
 
 -- an image that loads is the image of the device that it loads into: it has no other reading
 pub one-reading : (d : Device) {image : List ℕ} → Bytes image → loadAnswer d image .report ≡ Done → imageOf (loadAnswer d image .device .block .settings) ≡ image
 one-reading d {image} bytes =
     by-load (λ c. c .report ≡ Done → imageOf (c .device .block .settings) ≡ image) d image
-    (λ number e. absurd (not-done number e))
+    (λ number e. apart (cc))
     (λ full sound e. image-read full bytes)
 
 -- a refusal hands the given device back
@@ -71,20 +68,11 @@ pub load-refused-unchanged : (d : Device) (image : List ℕ) → loadAnswer d im
 load-refused-unchanged d image = by-load (λ c. c .report ≢ Done → c .device ≡ d) d image (λ number h. refl) (λ full sound h. absurd (h refl))
 
 -- a load changes no more than the settings
-pub load-changes-settings-alone : (d : Device) (image : List ℕ) → loadAnswer d image .device ≡ withSettings (loadAnswer d image .device .block .settings) d
-load-changes-settings-alone d image = by-load (λ c. c .device ≡ withSettings (c .device .block .settings) d) d image (λ number. refl) (λ full sound. refl)
+pub load-changes-settings-alone : (d : Device) (image : List ℕ) → loadAnswer d image .device ≡ loaded (loadAnswer d image .device .block .settings) d
+load-changes-settings-alone d image = by-load (λ c. c .device ≡ loaded (c .device .block .settings) d) d image (λ number. refl) (λ full sound. refl)
 
 -- a sound device stays sound
 pub load-sound : {d : Device} → Sound d → (image : List ℕ) → Sound (loadAnswer d image .device)
 load-sound {d} s image =
     by-load (λ c. Sound (c .device)) d image (λ number. s)
-    (λ full sound.
-    let p = Devices.parts s in
-    let b = sound-block (p .block) in
-    Devices.sound
-    (record {
-      known = p .known;
-      block = block-sound (record { settings = sound-settings (settingsIn image) sound; setpoint = b .setpoint; position = b .position });
-      rests = p .rests;
-      fits = p .fits;
-    }))
+    (λ full sound. with-block-sound s (with-settings-sound (block-of-sound s) (settings-parts (settingsIn image) sound)) (position-rests _ s refl))

@@ -11,38 +11,44 @@ use lib.IntN.{pos}
 use lib.ListN.{length}
 use Rattle.integers.proofs.Linear.{ints}
 use Rattle.integers.proofs.Cases.{by-cases, by-test}
-use Rattle.objects.specs.Table.{objects, sizeOf}
+use Rattle.objects.specs.Places.{CONTROL-WORD}
+use Rattle.objects.specs.Table.{objects, isSigned}
 use Rattle.objects.specs.Lookup.{placeFrom, placeOf, entryAt}
+use Rattle.coding.specs.Bytes.{byteAt}
 use Rattle.coding.specs.Coding.{span, inSpan, valueOf}
 use Rattle.device.specs.Events.{controlled}
 use Rattle.device.specs.Sound.{soundDevice, Sound}
 use Rattle.device.specs.declared.Device.{Device}
 use Rattle.device.proofs.Laws as Devices
-use Rattle.sdo.specs.Frames.{asksOf, repliedIn, requestOf, byte}
-use Rattle.sdo.specs.Entries.{writtenTo, crosses}
-use Rattle.sdo.specs.Aborts.{findEntry, verdictOn}
-use Rattle.sdo.specs.Serve.{answer, writeOf, served}
+use Rattle.dictionary.specs.Named.{named}
+use Rattle.dictionary.specs.Values.{writtenTo}
+use Rattle.dictionary.specs.Decide.{crosses, isLocked, verdictOn, writeOf, writeDecision}
+use Rattle.dictionary.specs.declared.Decision.the-variants.{Write}
+use Rattle.dictionary.proofs.Laws.{is-accepted}
+use Rattle.sdo.specs.Frames.{FRAME, asksOf, repliedIn, requestOf}
+use Rattle.sdo.specs.Serve.{answer, decisionOn, served}
 use Rattle.sdo.specs.declared.Request.{Request}
 use Rattle.sdo.specs.declared.Outcome.the-variants.{Written, Refused}
 use Rattle.sdo.specs.declared.Answer.{Answer}
-use Rattle.sdo.specs.declared.Verdict.the-variants.{Accepted}
-use Rattle.sdo.proofs.Promises.{not-written-unchanged, served-sound, is-accepted}
+use Rattle.sdo.proofs.Promises.{not-written-unchanged, served-sound}
+use Rattle.rainsheave.specs.Numbers.{UNSOUND, WRONG-LENGTH, NO-ROOM, NO-REPLY-DUE}
 use Rattle.rainsheave.specs.Calls.{isClientAbort, sdoAnswer, sdoRoom, numberOfReport, changed, controlAnswer, faultAnswer, tickAnswer, jumpAnswer}
 use Rattle.rainsheave.specs.declared.Change.{Change}
 
 -- ---- a refusal leaves everything as it was
 
+-- what holds of a refusal, which hands the device back, and of what is served holds of the answer
+by-sdo : (P : Answer → Type 0) (d : Device) (request : List ℕ) (room : ℕ) → ((number : ℕ) → P (answer (Refused number) d)) → P (served d (requestOf request)) → P (sdoAnswer d request room)
+unfolding sdoAnswer
+by-sdo P d request room refused done =
+    by-test P (not (soundDevice d)) (λ e. refused UNSOUND)
+    (λ e. by-test P (not (eqb (length request) FRAME)) (λ f. refused WRONG-LENGTH)
+    (λ f. by-test P (ltb room FRAME) (λ g. refused NO-ROOM)
+    (λ g. by-test P (isClientAbort (byteAt request 0)) (λ i. refused NO-REPLY-DUE) (λ i. done))))
+
 -- whatever is answered but a write done, the device is the given one
 pub sdo-unchanged : (d : Device) (request : List ℕ) (room : ℕ) → sdoAnswer d request room .outcome ≢ Written → sdoAnswer d request room .device ≡ d
-unfolding sdoAnswer
-sdo-unchanged d request room =
-    by-test Kept (not (soundDevice d)) (λ e h. refl)
-    (λ e. by-test Kept (not (eqb (length request) 8)) (λ f h. refl)
-    (λ f. by-test Kept (ltb room 8) (λ g h. refl)
-    (λ g. by-test Kept (isClientAbort (byte request 0)) (λ i h. refl) (λ i. not-written-unchanged d (requestOf request)))))
-  where
-    Kept : Answer → Type 0
-    Kept a = a .outcome ≢ Written → a .device ≡ d
+sdo-unchanged d request room = by-sdo (λ a. a .outcome ≢ Written → a .device ≡ d) d request room (λ number h. refl) (not-written-unchanged d (requestOf request))
 
 -- and a refusal writes nothing
 pub refusal-writes-nothing : (d : Device) (request before : List ℕ) (number : ℕ) → sdoAnswer d request (length before) .outcome ≡ Refused number → sdoRoom d request before ≡ before
@@ -56,15 +62,7 @@ refused-unchanged d c = by-cases (soundDevice d) (λ e f. rw e f) (λ e f. rw e 
 -- ---- a sound device stays sound
 
 pub sdo-sound : {d : Device} → Sound d → (request : List ℕ) (room : ℕ) → Sound (sdoAnswer d request room .device)
-unfolding sdoAnswer
-sdo-sound {d} s request room =
-    by-test Kept (not (soundDevice d)) (λ e. s)
-    (λ e. by-test Kept (not (eqb (length request) 8)) (λ f. s)
-    (λ f. by-test Kept (ltb room 8) (λ g. s)
-    (λ g. by-test Kept (isClientAbort (byte request 0)) (λ i. s) (λ i. served-sound s (requestOf request)))))
-  where
-    Kept : Answer → Type 0
-    Kept a = Sound (a .device)
+sdo-sound {d} s request room = by-sdo (λ a. Sound (a .device)) d request room (λ number. s) (served-sound s (requestOf request))
 
 changed-sound : {d : Device} (c : Change) → Sound d → Sound (c .device) → Sound (changed d c .device)
 changed-sound c s h = rw (s .sound) h
@@ -92,13 +90,13 @@ abbrev pub writing : ℕ → Request
 writing word = record { command = 0x2B; sub = 0; index = 0x6040; number = word }
 
 -- a control word may be written in every state
-word-accepted : (d : Device) (word : ℕ) → word < 65536 → verdictOn d 18 2 (pos word) ≡ Accepted
-unfolding objects sizeOf crosses
+word-accepted : (d : Device) (word : ℕ) → word < 65536 → verdictOn d CONTROL-WORD 2 (pos word) ≡ Write CONTROL-WORD (pos word)
+unfolding objects crosses isLocked
 word-accepted d word h =
-    is-accepted d 18 2 (pos word) (record { writable = refl; sized = refl; range = omega (arith, ints); uncrossed = refl; unlocked = refl })
+    is-accepted {d = d} {place = CONTROL-WORD} {size = 2} {x = pos word} (record { writable = refl; sized = refl; range = omega (arith, ints); uncrossed = refl; unlocked = refl })
 
 pub control-is-a-write : (d : Device) (word : ℕ) → word < 65536 → served d (writing word) ≡ answer Written (controlled word d)
-unfolding served asksOf findEntry placeOf placeFrom entryAt objects writeOf sizeOf valueOf span inSpan writtenTo
+unfolding served decisionOn asksOf writeDecision named placeOf placeFrom entryAt objects writeOf isSigned valueOf span inSpan writtenTo
 control-is-a-write d word h =
     let low : word % 65536 ≡ word = omega arith in
     rw (low, word-accepted d word h)

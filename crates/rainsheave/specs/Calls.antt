@@ -5,44 +5,25 @@ use Prim.Native.Nat.{ℕ, _/_}
 use lib.IntN.{ℤ, pos}
 use lib.ListN.{length}
 use Rattle.integers.specs.Words.{if_then_else_, _is_, _below_}
+use Rattle.coding.specs.Bytes.{byteAt}
+use Rattle.block.specs.Block.{withSettings}
 use Rattle.block.specs.Sound.{soundSettings}
 use Rattle.image.specs.Fields.{IMAGE-LENGTH, storedIn}
 use Rattle.image.specs.Load.{isFull, settingsIn}
 use Rattle.device.specs.States.{DISABLED}
-use Rattle.device.specs.Events.{withBlock, controlled, faulted, tickDevice, jumpDevice}
+use Rattle.device.specs.Device.{withBlock}
+use Rattle.device.specs.Events.{controlled, faulted, tickDevice, jumpDevice}
 use Rattle.device.specs.Sound.{soundDevice}
 use Rattle.device.specs.declared.Device.{Device}
-use Rattle.sdo.specs.Frames.{byte, requestOf, repliedIn}
+use Rattle.sdo.specs.Frames.{FRAME, requestOf, repliedIn}
 use Rattle.sdo.specs.Serve.{answer, served}
 use Rattle.sdo.specs.declared.Answer.{Answer}
 use Rattle.sdo.specs.declared.Outcome.the-variants.{Refused as Refuse}
+use Rattle.rainsheave.specs.Numbers.{UNSOUND, WRONG-LENGTH, NO-ROOM, NO-REPLY-DUE, NO-FAULT, NO-IMAGE-ROOM, NOT-FULL, BAD-VALUE, NOT-DISABLED}
 use Rattle.rainsheave.specs.declared.Report.{Report}
 use Rattle.rainsheave.specs.declared.Report.the-variants.{Done, Refused}
 use Rattle.rainsheave.specs.declared.Change.{Change}
 use Rattle.rainsheave.specs.declared.Reading.{Reading}
-
--- 1: the state isn't sound
-abbrev pub UNSOUND : ℕ
-UNSOUND = 1
-
--- 2: request isn't eight bytes
-abbrev pub WRONG-LENGTH : ℕ
-WRONG-LENGTH = 2
-
--- 3: reply room under eight
-abbrev pub NO-ROOM : ℕ
-NO-ROOM = 3
-
--- 4: no reply is due: top three bits of the command byte are 100 (client abort)
-abbrev pub NO-REPLY-DUE : ℕ
-NO-REPLY-DUE = 4
-
-abbrev pub isClientAbort : ℕ → Bool
-isClientAbort command = command / 32 is 4
-
--- 5: fault code 0
-abbrev pub NO-FAULT : ℕ
-NO-FAULT = 5
 
 -- the paper's number of a report: 0 where it is done
 abbrev pub numberOfReport : Report → ℕ
@@ -53,33 +34,9 @@ numberOfReport (Refused number) = number
 abbrev pub change : Report → Device → Change
 change report d = record { device = d; report = report }
 
--- an SDO request with so much room for the reply: 1, 2, 3, 4
-unfoldable pub sdoAnswer : Device → List ℕ → ℕ → Answer
-sdoAnswer d request room =
-    if not (soundDevice d) then answer (Refuse UNSOUND) d
-    else if not (length request is 8) then answer (Refuse WRONG-LENGTH) d
-    else if room below 8 then answer (Refuse NO-ROOM) d
-    else if isClientAbort (byte request 0) then answer (Refuse NO-REPLY-DUE) d
-    else served d (requestOf request)
-
--- the room after it: the reply in the first eight bytes, and later bytes as they were; a refusal writes nothing
-unfoldable pub sdoRoom : Device → List ℕ → List ℕ → List ℕ
-sdoRoom d request room = repliedIn (sdoAnswer d request (length room) .outcome) (requestOf request) room
-
 -- what changes a sound device, and is refused by 1 of another
 abbrev pub changed : Device → Change → Change
 changed d done = if soundDevice d then done else change (Refused UNSOUND) d
-
--- a control word, as an accepted SDO write of 6040h: 1
-unfoldable pub controlAnswer : Device → ℕ → Change
-controlAnswer d word = changed d (change Done (controlled word d))
-
--- a fault report: 1, 5
-unfoldable pub faultAnswer : Device → ℕ → Change
-faultAnswer d code =
-    changed d
-    (if code is 0 then change (Refused NO-FAULT) d
-    else change Done (faulted code d))
 
 -- one tick: 1
 unfoldable pub tickAnswer : Device → Change
@@ -95,21 +52,33 @@ queryAnswer d value =
     if soundDevice d then record { value = value; number = 0 }
     else record { value = pos 0; number = UNSOUND }
 
--- 6: image room under 97
-abbrev pub NO-IMAGE-ROOM : ℕ
-NO-IMAGE-ROOM = 6
+-- the top three bits of a command byte are 100
+abbrev pub isClientAbort : ℕ → Bool
+isClientAbort command = command / 32 is 4
 
--- 7: not a full image
-abbrev pub NOT-FULL : ℕ
-NOT-FULL = 7
+-- an SDO request with so much room for the reply: 1, 2, 3, 4
+unfoldable pub sdoAnswer : Device → List ℕ → ℕ → Answer
+sdoAnswer d request room =
+    if not (soundDevice d) then answer (Refuse UNSOUND) d
+    else if not (length request is FRAME) then answer (Refuse WRONG-LENGTH) d
+    else if room below FRAME then answer (Refuse NO-ROOM) d
+    else if isClientAbort (byteAt request 0) then answer (Refuse NO-REPLY-DUE) d
+    else served d (requestOf request)
 
--- 8: image value out of range, or limits crossed
-abbrev pub BAD-VALUE : ℕ
-BAD-VALUE = 8
+-- the room after it: the reply in the first eight bytes, and later bytes as they were; a refusal writes nothing
+unfoldable pub sdoRoom : Device → List ℕ → List ℕ → List ℕ
+sdoRoom d request room = repliedIn (sdoAnswer d request (length room) .outcome) (requestOf request) room
 
--- 9: load outside DISABLED
-abbrev pub NOT-DISABLED : ℕ
-NOT-DISABLED = 9
+-- a control word, as an accepted SDO write of 6040h: 1
+unfoldable pub controlAnswer : Device → ℕ → Change
+controlAnswer d word = changed d (change Done (controlled word d))
+
+-- a fault report: 1, 5
+unfoldable pub faultAnswer : Device → ℕ → Change
+faultAnswer d code =
+    changed d
+    (if code is 0 then change (Refused NO-FAULT) d
+    else change Done (faulted code d))
 
 -- a store with so much room: 1, 6
 unfoldable pub storeAnswer : Device → ℕ → Report
@@ -127,9 +96,8 @@ unfoldable pub storeRoom : Device → List ℕ → List ℕ
 storeRoom d room = roomBy (storeAnswer d (length room)) d room
 
 -- the device with other settings, and all else as it was
-abbrev pub withSettings : List ℤ → Device → Device
-withSettings settings d =
-    withBlock (record { setpoint = d .block .setpoint; position = d .block .position; settings = settings }) d
+abbrev pub loaded : List ℤ → Device → Device
+loaded settings d = withBlock (withSettings settings (d .block)) d
 
 -- a load: 1, 9, 7, 8
 unfoldable pub loadAnswer : Device → List ℕ → Change
@@ -138,4 +106,4 @@ loadAnswer d image =
     (if not (d .state is DISABLED) then change (Refused NOT-DISABLED) d
     else if not (isFull image) then change (Refused NOT-FULL) d
     else if not (soundSettings (settingsIn image)) then change (Refused BAD-VALUE) d
-    else change Done (withSettings (settingsIn image) d))
+    else change Done (loaded (settingsIn image) d))

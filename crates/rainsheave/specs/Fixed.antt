@@ -4,11 +4,12 @@ use mathlib.Core.Path.{_≡_}
 use Prim.Native.Nat.{ℕ, _+_}
 use lib.IntN.{pos}
 use lib.ListN.{length}
-use Rattle.device.specs.Events.{freshDevice}
+use Rattle.device.specs.Device.{freshDevice}
 use Rattle.device.specs.Queries.{statusOf, deviceTarget, deviceCommand, deviceTicksToGo}
 use Rattle.device.specs.declared.Device.{Device}
 use Rattle.sdo.specs.declared.Answer.{Answer}
-use Rattle.rainsheave.specs.Calls.{sdoAnswer, sdoRoom, controlAnswer, faultAnswer, tickAnswer, jumpAnswer, queryAnswer, storeAnswer, storeRoom, loadAnswer}
+use Rattle.rainsheave.specs.Calls.{sdoAnswer, sdoRoom, controlAnswer, faultAnswer, tickAnswer, jumpAnswer, queryAnswer}
+use Rattle.rainsheave.specs.Calls.{storeAnswer, storeRoom, loadAnswer}
 use Rattle.image.specs.Walk.{walk, partOf, beginOf, codeOf}
 use Rattle.rainsheave.specs.declared.Report.{Report}
 use Rattle.rainsheave.specs.declared.Change.{Change}
@@ -76,7 +77,7 @@ pub record StoreIs (d : Device) (before after : List ℕ) (r : Report) : Type 0 
 pub record LoadIs (d : Device) (image : List ℕ) (r : Change) : Type 0 where
   pub result : r ≡ loadAnswer d image
 
--- `find` of a tag in an image that stands at a place of a block of memory: the part's bytes, and that it is that part of the caller's own slice
+-- `find` of a tag in an image that stands at a place of a block of memory: the part's bytes, and that it is that part of the caller's slice
 pub record FindIs {P : Type 0} (image : List ℕ) (tag : ℕ) (memory : P) (place : ℕ) (part : List ℕ) (memory′ : P) (place′ : ℕ) : Type 0 where
   pub bytes : part ≡ partOf image (walk image tag)
   pub same : memory′ ≡ memory

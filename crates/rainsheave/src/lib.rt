@@ -4,7 +4,8 @@ ghost use mathlib.Core.Path.{_≡_};
 ghost use lib.IntN.{pos};
 ghost use Rattle.device.specs.Sound.{soundDevice};
 ghost use Rattle.sdo.specs.Serve.{answer};
-ghost use Rattle.rainsheave.specs.Calls.{change, withSettings};
+ghost use Rattle.rainsheave.specs.Calls.{change, numberOfReport};
+ghost use Rattle.sdo.specs.Frames.{numberHandedBack};
 ghost use Rattle.rainsheave.specs.Fixed.{
   FreshIs,
   SdoIs,
@@ -24,29 +25,28 @@ ghost use Rattle.rainsheave.specs.Fixed.{
   FindIs,
   FindCodeIs,
 };
+
+pub mod abort;
+pub mod number;
+pub mod word;
+
+use crate::number::BAD_VALUE;
+use crate::number::NO_FAULT;
+use crate::number::NO_IMAGE_ROOM;
+use crate::number::NO_REPLY_DUE;
+use crate::number::NO_ROOM;
+use crate::number::NOT_DISABLED;
+use crate::number::NOT_FULL;
+use crate::number::UNSOUND;
+use crate::number::WRONG_LENGTH;
 use device::DISABLED;
 use device::Device;
+pub use objects::index;
 use sdo::Answer;
 use sdo::Outcome;
-
-// The numbers handed back by these calls; 0 is done.
-const UNSOUND: u8 = 1;
-
-const WRONG_LENGTH: u8 = 2;
-
-const NO_ROOM: u8 = 3;
-
-const NO_REPLY_DUE: u8 = 4;
-
-const NO_FAULT: u8 = 5;
-
-const NO_IMAGE_ROOM: u8 = 6;
-
-const NOT_FULL: u8 = 7;
-
-const BAD_VALUE: u8 = 8;
-
-const NOT_DISABLED: u8 = 9;
+pub use sdo::number_of as number_of_outcome;
+pub use sdo::read_request;
+pub use sdo::write_request;
 
 // What becomes of a call that changes the device.
 pub enum Report {
@@ -99,6 +99,16 @@ fn not_told() -> Reading
     Reading {
         value: 0,
         number: UNSOUND,
+    }
+}
+
+// The number handed back beside a report.
+pub fn number_of_report(report: Report) -> u8
+    ensures { λ r. ⌜ r ≡ numberOfReport report ⌝ }
+{
+    match report {
+        Report::Done => 0,
+        Report::Refused(number) => number,
     }
 }
 
@@ -272,16 +282,6 @@ pub fn store(device: Device, room: &mut [u8]) -> Report
     Report::Done
 }
 
-fn with_settings(device: Device, settings: [i64; 17]) -> Device
-    ensures { λ r. ⌜ r ≡ withSettings settings device ⌝ }
-{
-    let mut block = device.block;
-    block.settings = settings;
-    let mut loaded = device;
-    loaded.block = block;
-    loaded
-}
-
 // All the settings of a full image, or none.
 pub fn load(device: Device, image: &[u8]) -> Change
     ensures { λ r. ⌜ LoadIs device (now (image .entry)) r ⌝ }
@@ -299,7 +299,8 @@ pub fn load(device: Device, image: &[u8]) -> Change
     if !block::sound_settings(settings) {
         return refused(device, BAD_VALUE);
     }
-    done(with_settings(device, settings))
+    let block = device.block;
+    done(device::with_block(device, block::with_settings(block, settings)))
 }
 
 // The value bytes of the first field with a tag, as that part of the caller's own slice; empty where `find_code` is not 0.

@@ -8,13 +8,15 @@ use lib.IntN.{ℤ, pos, _*ℤ_}
 use lib.Signed.{leZ, leZ-yes}
 use Rattle.integers.specs.Words.{minus}
 use Rattle.integers.specs.Range.{Within}
-use Rattle.ramp.specs.Ramp.{sideOf, awayTime, backTime, stepOf, opposite, decelerates, distance, toward, moved, stop, stride, tickOf, ticked, legTicks, ticksToGo, positionAfter}
+use Rattle.objects.specs.Numbers.{PARTS, FULL-POSITION}
+use Rattle.objects.specs.Table.{objects}
+use Rattle.ramp.specs.Ramp.{sideOf, awayTime, backTime, stepOf, opposite, decelerates, distance, toward, moved, halts, stop, stride, tickOf, ticked, roundedUp, ticksToZero, ticksToGo, positionAfter}
 use Rattle.ramp.specs.Demand.{Longest}
 use Rattle.ramp.specs.declared.Ramp.{Ramp}
 
 -- so many ir, as positions
 abbrev ir : List ℤ → List ℤ
-ir = map (λ z. z *ℤ pos 65536)
+ir = map (λ z. z *ℤ pos PARTS)
 
 -- a ramp of this type with one acceleration and one deceleration time
 abbrev ramp : ℕ → ℕ → ℕ → Ramp
@@ -31,15 +33,15 @@ outAndIn = ramp 2 1024 512
 
 pub record RampExamples : Type 0 where
   pub stepOfASecond : stepOf (pos 1000) ≡ 1073741
-  pub strokeInASecond : ticksToGo (ramp 1 1000 0) (pos 1073741824) (pos 0) ≡ 1001
+  pub strokeInASecond : ticksToGo (ramp 1 1000 0) (pos FULL-POSITION) (pos 0) ≡ 1001
   pub stepOfAnHour : stepOf (pos 3600000) ≡ 298
-  pub stepsOutAndIn : (stepOf (pos 1024) ≡ 16 * 65536) × (stepOf (pos 512) ≡ 32 * 65536)
-  pub ticksOutAndIn : ticksToGo outAndIn (minus 3276800) (pos 6553600) ≡ 8
-  pub positionsOutAndIn : map (ticked outAndIn (minus 3276800) (pos 6553600)) (1 ∷ 2 ∷ 3 ∷ 4 ∷ 5 ∷ 6 ∷ 7 ∷ 8 ∷ []) ≡ ir (pos 68 ∷ pos 36 ∷ pos 4 ∷ pos 0 ∷ minus 16 ∷ minus 32 ∷ minus 48 ∷ minus 50 ∷ [])
-  pub formulaOutAndIn : map (positionAfter outAndIn (minus 3276800) (pos 6553600)) (1 ∷ 2 ∷ 3 ∷ 4 ∷ 5 ∷ 6 ∷ 7 ∷ 8 ∷ 4294967295 ∷ []) ≡ ir (pos 68 ∷ pos 36 ∷ pos 4 ∷ pos 0 ∷ minus 16 ∷ minus 32 ∷ minus 48 ∷ minus 50 ∷ minus 50 ∷ [])
+  pub stepsOutAndIn : (stepOf (pos 1024) ≡ 16 * PARTS) × (stepOf (pos 512) ≡ 32 * PARTS)
+  pub ticksOutAndIn : ticksToGo outAndIn (minus (50 * PARTS)) (pos (100 * PARTS)) ≡ 8
+  pub positionsOutAndIn : map (ticked outAndIn (minus (50 * PARTS)) (pos (100 * PARTS))) (1 ∷ 2 ∷ 3 ∷ 4 ∷ 5 ∷ 6 ∷ 7 ∷ 8 ∷ []) ≡ ir (pos 68 ∷ pos 36 ∷ pos 4 ∷ pos 0 ∷ minus 16 ∷ minus 32 ∷ minus 48 ∷ minus 50 ∷ [])
+  pub formulaOutAndIn : map (positionAfter outAndIn (minus (50 * PARTS)) (pos (100 * PARTS))) (1 ∷ 2 ∷ 3 ∷ 4 ∷ 5 ∷ 6 ∷ 7 ∷ 8 ∷ 4294967295 ∷ []) ≡ ir (pos 68 ∷ pos 36 ∷ pos 4 ∷ pos 0 ∷ minus 16 ∷ minus 32 ∷ minus 48 ∷ minus 50 ∷ minus 50 ∷ [])
 
 pub examples : RampExamples
-unfolding sideOf awayTime backTime stepOf opposite decelerates distance toward moved stop stride tickOf ticked legTicks ticksToGo positionAfter
+unfolding sideOf awayTime backTime stepOf opposite decelerates distance toward moved halts stop stride tickOf ticked roundedUp ticksToZero ticksToGo positionAfter
 examples =
     record {
       stepOfASecond = refl;
@@ -53,12 +55,12 @@ examples =
 
 -- the bound on the ticks to go is attained: from end to end at the longest time
 pub longest : Longest
-unfolding sideOf awayTime backTime stepOf opposite decelerates distance stop stride legTicks ticksToGo
+unfolding objects sideOf awayTime backTime stepOf opposite decelerates distance halts stride roundedUp ticksToZero ticksToGo
 longest =
     record {
       ramp = ramp 1 3600000 0;
-      target = pos 1073741824;
-      position = minus 1073741824;
+      target = pos FULL-POSITION;
+      position = minus FULL-POSITION;
       way = record {
         ramp = record {
           kind = lies tt tt;

@@ -1,16 +1,17 @@
--- What the travel asks of `stop` and `stride`: on the way to the first stop neither changes, from there the ticks stop next at the target, and at the target they stay.
+-- What the travel asks of `halts`, `stop` and `stride`: on the way to the first stop neither it nor the step changes, and there is no halt from zero nor at the target.
 use mathlib.Core.Bool.{true, false, and-false}
-use mathlib.Core.Path.{_≡_, refl, sym, _∙_}
-use Prim.Native.Nat.{ℕ, zero, suc, _*_, _≤_, _<_}
+use mathlib.Core.Path.{_≡_, sym, _∙_}
+use Prim.Native.Nat.{ℕ, _≤_, _<_}
 use native.Mathlib.Omega.{arith}
 use borrow.Author.Tests.{lt-ltb, le-ltb}
 use lib.IntN.{ℤ, pos, natAbs}
 use lib.Signed.{ltZ, _≤ℤ_, _<ℤ_}
 use Rattle.integers.proofs.Linear.{ints, abs-high, abs-low}
+use Rattle.integers.proofs.Each.{and-split}
 use Rattle.integers.proofs.Cases.{by-cases, by-less-ℤ, ltZ-same}
-use Rattle.ramp.specs.Ramp.{sideOf, backTime, opposite, decelerates, distance, moved, ramped, stop, stride}
+use Rattle.ramp.specs.Ramp.{sideOf, backTime, opposite, decelerates, distance, moved, ramped, halts, stop, stride}
 use Rattle.ramp.specs.declared.Ramp.{Ramp}
-use Rattle.ramp.proofs.Moves.{by-move, moved-none}
+use Rattle.ramp.proofs.Moves.{by-move}
 
 -- ---- sides of zero
 
@@ -46,6 +47,10 @@ beside {t} {p} (low h k) =
     let a : ltZ (pos 0) p ≡ false = omega (arith, ints) in
     let b : ltZ (pos 0) t ≡ false = omega (arith, ints) in
     simp (a, b, and-false)
+
+pub flip : {t p : ℤ} → Beside t p → Beside p t
+flip (high h k) = high k h
+flip (low h k) = low k h
 
 -- one or the other
 pub by-side {ℓ} : (t p : ℤ) {X : Type ℓ} → (Across t p → X) → (Beside t p → X) → X
@@ -120,65 +125,56 @@ to-target t p q (low a b) (downward c d) =
 
 -- ---- the first stop
 
--- where it is: at the target, but at zero on a ramp from the far side
-stop-across : (r : Ramp) (t p : ℤ) → ramped r ≡ true → Across t p → stop r t p ≡ pos 0
+pub halts-across : (r : Ramp) (t p : ℤ) → ramped r ≡ true → Across t p → halts r t p ≡ true
+unfolding halts
+halts-across r t p k a = simp (k, across a)
+
+pub halts-beside : (r : Ramp) (t p : ℤ) → Beside t p → halts r t p ≡ false
+unfolding halts
+halts-beside r t p b = simp (beside b, and-false)
+
+-- with a halt there is a ramp
+pub halts-ramped : (r : Ramp) (t p : ℤ) → halts r t p ≡ true → ramped r ≡ true
+unfolding halts
+halts-ramped r t p h = and-split (ramped r) (opposite t p) h .0
+
+-- the two ways on a ramp: with a halt at zero, and straight
+pub by-leg {ℓ} : (r : Ramp) (t p : ℤ) → ramped r ≡ true → {X : Type ℓ} → (halts r t p ≡ true → Across t p → X) → (halts r t p ≡ false → Beside t p → X) → X
+by-leg r t p k f g = by-side t p (λ a. f (halts-across r t p k a) a) (λ b. g (halts-beside r t p b) b)
+
+-- none from zero, nor at the target
+pub from-zero : (t : ℤ) → Beside t (pos 0)
+from-zero t = by-less-ℤ t (pos 0) (λ l. low (omega (arith, ints)) (omega (arith, ints))) (λ l. high l (omega (arith, ints)))
+
+pub at-target : (t : ℤ) → Beside t t
+at-target t = by-less-ℤ t (pos 0) (λ l. low (omega (arith, ints)) (omega (arith, ints))) (λ l. high l l)
+
+pub stop-at-zero : (r : Ramp) (t p : ℤ) → halts r t p ≡ true → stop r t p ≡ pos 0
 unfolding stop
-stop-across r t p k a = simp (k, across a)
+stop-at-zero r t p h = rw h
 
-pub stop-beside : (r : Ramp) (t p : ℤ) → Beside t p → stop r t p ≡ t
+pub stop-at-target : (r : Ramp) (t p : ℤ) → halts r t p ≡ false → stop r t p ≡ t
 unfolding stop
-stop-beside r t p b = simp (beside b, and-false)
-
-pub stop-unramped : (r : Ramp) (t p : ℤ) → ramped r ≡ false → stop r t p ≡ t
-unfolding stop
-stop-unramped r t p k = simp k
-
--- the three ways of a position: at once, by zero, and straight
-pub by-leg {ℓ} : (r : Ramp) (t p : ℤ) {X : Type ℓ} → (ramped r ≡ false → stop r t p ≡ t → X) → (ramped r ≡ true → Across t p → stop r t p ≡ pos 0 → X) → (ramped r ≡ true → Beside t p → stop r t p ≡ t → X) → X
-by-leg r t p f g h =
-    by-cases (ramped r)
-    (λ k. by-side t p (λ a. g k a (stop-across r t p k a)) (λ b. h k b (stop-beside r t p b)))
-    (λ k. f k (stop-unramped r t p k))
-
-pub at-target : (r : Ramp) (t : ℤ) → stop r t t ≡ t
-at-target r t = stop-beside r t t (by-less-ℤ t (pos 0) (λ l. low (omega (arith, ints)) (omega (arith, ints))) (λ l. high l l))
-
--- from the first stop the ticks stop next at the target
-pub then-target : (r : Ramp) (t p : ℤ) → stop r t (stop r t p) ≡ t
-then-target r t p =
-    by-leg r t p
-    (λ k e. rw (e, at-target r t))
-    (λ k a e. rw e (stop-beside r t (pos 0) (by-less-ℤ t (pos 0) (λ l. low (omega (arith, ints)) (omega (arith, ints))) (λ l. high l (omega (arith, ints))))))
-    (λ k b e. rw (e, at-target r t))
+stop-at-target r t p h = rw h
 
 -- on the way to the first stop neither it nor the step changes
 pub record Steady (r : Ramp) (t p q : ℤ) : Type 0 where
   pub stops : stop r t q ≡ stop r t p
   pub strides : stride r t q ≡ stride r t p
 
-by-tests : (r : Ramp) (t p q : ℤ) → ramped r ≡ true → Same t p q → Steady r t p q
-unfolding stop stride backTime sideOf
-by-tests r t p q k s =
+by-tests : (r : Ramp) (t p q : ℤ) → Same t p q → Steady r t p q
+unfolding halts stop stride backTime sideOf
+by-tests r t p q s =
     record {
       stops = rw (s .sides);
       strides = by-cases (decelerates t p)
-          (λ e. rw (s .slows, k, e, s .signs e))
-          (λ e. rw (s .slows, k, e));
+          (λ e. rw (s .slows, e, s .signs e))
+          (λ e. rw (s .slows, e));
     }
 
--- with no ramp a step is the whole way, so that the first tick is the last
-pub at-once : (r : Ramp) (t p : ℤ) → ramped r ≡ false → stride r t p ≡ distance p t
-unfolding stride
-at-once r t p k = simp k
-
-none-yet : (n d : ℕ) → n * d < d → n * d ≡ 0
-none-yet zero d h = omega arith
-none-yet (suc n) d h = absurd (omega arith)
-
-pub steady : (r : Ramp) (t p : ℤ) (n : ℕ) → n * stride r t p < distance p (stop r t p) → Steady r t p (moved (stop r t p) (n * stride r t p) p)
-steady r t p n h =
-    by-leg r t p
-    (λ k e. let z : n * stride r t p ≡ 0 = rw (at-once r t p k) (none-yet n (distance p t) (rw (at-once r t p k, e) at h)) in
-    rw (z, moved-none) (record { stops = refl; strides = refl }))
-    (λ k a e. by-tests r t p _ k (rw e (to-zero t p _ a (rw e at (between (stop r t p) (n * stride r t p) p h)))))
-    (λ k b e. by-tests r t p _ k (rw e (to-target t p _ b (rw e at (between (stop r t p) (n * stride r t p) p h)))))
+pub steady : (r : Ramp) (t p : ℤ) (m : ℕ) → ramped r ≡ true → m < distance p (stop r t p) → Steady r t p (moved (stop r t p) m p)
+steady r t p m k h =
+    let b = between (stop r t p) m p h in
+    by-tests r t p _ (by-leg r t p k
+    (λ e a. rw (stop-at-zero r t p e) (to-zero t p _ a (rw (stop-at-zero r t p e) at b)))
+    (λ e a. rw (stop-at-target r t p e) (to-target t p _ a (rw (stop-at-target r t p e) at b))))

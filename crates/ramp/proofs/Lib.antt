@@ -1,7 +1,8 @@
 pub mod Moves
-pub mod Legs
 pub mod Rounding
+pub mod Legs
 pub mod Bounds
+pub mod Formula
 pub mod Travel
 pub mod Demand
 pub mod Examples

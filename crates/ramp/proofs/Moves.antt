@@ -1,13 +1,14 @@
 -- A move of p toward g by m. From below it adds the smaller of m and the distance, and from above it takes that away: all else is linear.
 use mathlib.Core.Bool.{true, false}
-use mathlib.Core.Path.{_≡_, _∙_}
+use mathlib.Core.Logic.{_≢_}
+use mathlib.Core.Path.{_≡_, sym, _∙_}
 use Prim.Native.Nat.{ℕ, _+_, _-_, _≤_, _<_, min}
 use native.Mathlib.Omega.{arith}
 use borrow.Author.Tests.{lt-ltb, le-ltb}
 use lib.IntN.{ℤ, pos, _+ℤ_, _-ℤ_}
 use lib.Signed.{ltZ, _≤ℤ_}
 use Rattle.integers.proofs.Linear.{ints, up, dn, add-nat, sub-nat, abs-nat}
-use Rattle.integers.proofs.Cases.{by-less, by-less-ℤ}
+use Rattle.integers.proofs.Cases.{by-test, by-less, by-less-ℤ}
 use Rattle.ramp.specs.Ramp.{distance, toward, moved}
 
 -- p is below g, at it, or above it
@@ -41,6 +42,10 @@ arrives g m p h = rw (le-ltb m (distance p g) h)
 pub on-the-way : (g : ℤ) (m : ℕ) (p : ℤ) → m < distance p g → moved g m p ≡ toward g m p
 unfolding moved
 on-the-way g m p h = rw (lt-ltb m (distance p g) h)
+
+pub toward-none : (g p : ℤ) → toward g 0 p ≡ p
+unfolding toward
+toward-none g p = by-test (λ q. q ≡ p) (ltZ p g) (λ e. omega (arith, ints, add-nat p (pos 0))) (λ e. omega (arith, ints, sub-nat p (pos 0)))
 
 pub moved-up : (g : ℤ) (m : ℕ) (p : ℤ) → p ≤ℤ g → moved g m p ≡ p +ℤ pos (min m (distance p g))
 unfolding toward
@@ -100,3 +105,6 @@ moved-again g a b p =
     let v = goes-up g a q h in let z = goes-up g (b + a) p (w .below) in let d = moved-distance g b p in omega (arith, ints))
     (λ w. let h : g ≤ℤ q = omega (arith, ints) in
     let v = goes-down g a q h in let z = goes-down g (b + a) p (w .above) in let d = moved-distance g b p in omega (arith, ints))
+
+pub short-of : (g : ℤ) (m : ℕ) (p : ℤ) → m < distance p g → moved g m p ≢ g
+short-of g m p h e = let z : distance p g - m ≡ 0 = sym (moved-distance g m p) ∙ rw e (distance-self g) in omega arith

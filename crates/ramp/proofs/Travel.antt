@@ -1,101 +1,80 @@
--- n single ticks end where the closed formula says: on each leg a tick is one step more, and the target, once met, is kept.
+-- n single ticks end where the closed formula says: to zero and to the target a tick is one step more, and the target, once met, is kept.
+use mathlib.Core.Bool.{true, false}
 use mathlib.Core.Logic.{_≢_}
 use mathlib.Core.Path.{_≡_, sym, ap, _∙_}
-use Prim.Native.Nat.{ℕ, zero, suc, _+_, _-_, _*_, _≤_, _<_}
+use Prim.Native.Nat.{ℕ, zero, suc, _+_, _-_, _*_, _<_}
 use native.Mathlib.Nat.{add-zero, add-suc}
 use native.Mathlib.Omega.{arith}
-use borrow.Author.Tests.{lt-ltb, le-ltb}
-use lib.IntN.{ℤ}
+use lib.IntN.{ℤ, pos}
 use Rattle.integers.proofs.Cases.{by-less}
-use Rattle.ramp.specs.Ramp.{distance, moved, stop, stride, tickOf, ticked, legTicks, ticksToGo, positionAfter, Inside, Sound, Way}
+use Rattle.ramp.specs.Ramp.{distance, moved, ramped, halts, stop, stride, tickOf, ticked, ticksToZero, ticksToGo, positionAfter, Inside, Way}
 use Rattle.ramp.specs.declared.Ramp.{Ramp}
-use Rattle.ramp.proofs.Moves.{arrives, on-the-way, moved-none, moved-again, moved-distance, distance-self, distance-zero}
-use Rattle.ramp.proofs.Legs.{steady, at-target, then-target}
-use Rattle.ramp.proofs.Rounding.{enough, too-few}
-use Rattle.ramp.proofs.Bounds.{paced, stop-inside, moved-inside}
+use Rattle.ramp.proofs.Moves.{arrives, short-of, moved-none, moved-again, distance-self, distance-zero}
+use Rattle.ramp.proofs.Rounding.{too-few}
+use Rattle.ramp.proofs.Legs.{steady, at-target, from-zero, halts-beside, halts-ramped, stop-at-zero, stop-at-target}
+use Rattle.ramp.proofs.Bounds.{moved-inside, zero-inside}
+use Rattle.ramp.proofs.Formula.{by-way, none-to-go, one-to-go, at-once, not-yet, strides, short, reached, ticks-straight, ticks-halting, straight, before-zero, after-zero}
 
--- ---- one leg
+-- ---- one tick of a ramp
 
--- a tick on the way to the first stop is a step more
-onward : (r : Ramp) (t p : ℤ) (n : ℕ) → n * stride r t p < distance p (stop r t p) → tickOf r t (moved (stop r t p) (n * stride r t p) p) ≡ moved (stop r t p) (suc n * stride r t p) p
-unfolding tickOf
-onward r t p n h =
-    let s = steady r t p n h in
-    let e : n * stride r t p + stride r t p ≡ suc n * stride r t p = omega arith in
-    rw (s .stops, s .strides, moved-again, e)
+module _ (r : Ramp) (t p : ℤ) (k : ramped r ≡ true) where
+  -- on the way to the first stop it is a step more
+  onward : (n : ℕ) → n * stride r t p < distance p (stop r t p) → tickOf r t (moved (stop r t p) (n * stride r t p) p) ≡ moved (stop r t p) (suc n * stride r t p) p
+  unfolding tickOf
+  onward n h =
+      let s = steady r t p (n * stride r t p) k h in
+      let e : n * stride r t p + stride r t p ≡ suc n * stride r t p = omega arith in
+      rw (k, s .stops, s .strides, moved-again, e)
 
--- at the target a tick changes nothing
-rest : (r : Ramp) (t : ℤ) → tickOf r t t ≡ t
-unfolding tickOf
-rest r t = rw (at-target r t) (let e = distance-self t in arrives t (stride r t t) t (omega arith))
+  -- at the target it changes nothing
+  rest : tickOf r t t ≡ t
+  unfolding tickOf
+  rest = let e = distance-self t in rw (k, stop-at-target r t t (halts-beside r t t (at-target t))) (arrives t (stride r t t) t (omega arith))
 
--- where the first stop is the target, a tick is a step more, also at the end
-last-leg : (r : Ramp) (t g : ℤ) → stop r t g ≡ t → (n : ℕ) → tickOf r t (moved t (n * stride r t g) g) ≡ moved t (suc n * stride r t g) g
-last-leg r t g e n =
-    by-less (n * stride r t g) (distance g t)
-    (λ h. rw e at (onward r t g n (rw e h)))
-    (λ h. ap (tickOf r t) (arrives t (n * stride r t g) g h) ∙ rest r t ∙ sym (arrives t (suc n * stride r t g) g (omega arith)))
+  -- with no halt it is a step more, also at the end
+  last-leg : halts r t p ≡ false → (n : ℕ) → tickOf r t (moved t (n * stride r t p) p) ≡ moved t (suc n * stride r t p) p
+  last-leg h n =
+      let e = stop-at-target r t p h in
+      by-less (n * stride r t p) (distance p t)
+      (λ l. rw e at (onward n (rw e l)))
+      (λ l. ap (tickOf r t) (arrives t (n * stride r t p) p l) ∙ rest ∙ sym (arrives t (suc n * stride r t p) p (omega arith)))
 
 -- ---- the whole way
 
--- so many ticks are too few for the first stop, or enough
-short : (r : Ramp) (t p : ℤ) (n : ℕ) → n < legTicks r t p → n * stride r t p < distance p (stop r t p)
-unfolding legTicks
-short r t p n h = too-few _ _ n h
-
-reached : {r : Ramp} → Sound r → (t p : ℤ) (n : ℕ) → legTicks r t p ≤ n → distance p (stop r t p) ≤ n * stride r t p
-unfolding legTicks
-reached s t p n h = enough _ _ n (paced s t p) h
-
 module _ {r : Ramp} {t p : ℤ} (w : Way r t p) where
-  -- and so for the target, from the first stop
-  short-again : (n : ℕ) → legTicks r t p ≤ n → n < ticksToGo r t p → (n - legTicks r t p) * stride r t (stop r t p) < distance (stop r t p) t
-  unfolding ticksToGo
-  short-again n h k = rw then-target at (short r t (stop r t p) (n - legTicks r t p) (omega arith))
+  -- with a halt, at the tick that meets zero
+  turn : halts r t p ≡ true → (n : ℕ) → ticksToZero r t p ≡ n → positionAfter r t p n ≡ pos 0
+  turn h n e =
+      let z : (n - ticksToZero r t p) * stride r t (pos 0) ≡ 0 = let d : n - ticksToZero r t p ≡ 0 = omega arith in rw d (omega arith) in
+      after-zero w h n (omega arith) ∙ rw (z, moved-none)
 
-  reached-again : (n : ℕ) → ticksToGo r t p ≤ n → distance (stop r t p) t ≤ (n - legTicks r t p) * stride r t (stop r t p)
-  unfolding ticksToGo
-  reached-again n h = rw then-target at (reached (w .ramp) t (stop r t p) (n - legTicks r t p) (omega arith))
-
-  -- the formula by moves that stop: toward the first stop, and from there to the target
-  pub before : (n : ℕ) → n < legTicks r t p → positionAfter r t p n ≡ moved (stop r t p) (n * stride r t p) p
-  unfolding positionAfter
-  before n h = rw (lt-ltb n (legTicks r t p) h) (sym (on-the-way _ _ p (short r t p n h)))
-
-  pub kept : (n : ℕ) → ticksToGo r t p ≤ n → positionAfter r t p n ≡ t
-  unfolding positionAfter ticksToGo
-  kept n h = rw (le-ltb n (legTicks r t p) (omega arith), le-ltb n (legTicks r t p + legTicks r t (stop r t p)) h)
-
-  pub after : (n : ℕ) → legTicks r t p ≤ n → positionAfter r t p n ≡ moved t ((n - legTicks r t p) * stride r t (stop r t p)) (stop r t p)
-  unfolding positionAfter
-  after n h =
-      by-less n (ticksToGo r t p)
-      (λ k. rw (le-ltb n (legTicks r t p) h, lt-ltb n (ticksToGo r t p) k) (sym (on-the-way _ _ (stop r t p) (short-again n h k))))
-      (λ k. kept n k ∙ sym (arrives t _ (stop r t p) (reached-again n k)))
-
-  -- at the tick that meets the first stop
-  turn : (n : ℕ) → legTicks r t p ≡ n → positionAfter r t p n ≡ stop r t p
-  turn n h =
-      let z : (n - legTicks r t p) * stride r t (stop r t p) ≡ 0 = let e : n - legTicks r t p ≡ 0 = omega arith in rw e (omega arith) in
-      after n (omega arith) ∙ rw (z, moved-none)
-
-  start : positionAfter r t p 0 ≡ p
+  pub start : positionAfter r t p 0 ≡ p
   start =
-      by-less 0 (legTicks r t p)
-      (λ h. let z : 0 * stride r t p ≡ 0 = omega arith in before 0 h ∙ rw (z, moved-none))
-      (λ h. let d = reached (w .ramp) t p 0 h in turn 0 (omega arith) ∙ sym (distance-zero p (stop r t p) (omega arith)))
+      let z : 0 * stride r t p ≡ 0 = omega arith in
+      by-way r t p
+      (λ k. not-yet r t p k)
+      (λ k h. straight w k h 0 ∙ rw (z, moved-none))
+      (λ h. by-less 0 (ticksToZero r t p)
+      (λ l. before-zero w h 0 l ∙ rw (z, moved-none))
+      (λ l. turn h 0 (omega arith) ∙ sym (distance-zero p (pos 0) (omega (arith, reached w 0 l)))))
 
   -- one tick more is the formula at n + 1
   next : (n : ℕ) → tickOf r t (positionAfter r t p n) ≡ positionAfter r t p (suc n)
+  unfolding tickOf
   next n =
-      by-less n (legTicks r t p)
-      (λ h. ap (tickOf r t) (before n h) ∙ onward r t p n (short r t p n h)
-      ∙ by-less (suc n) (legTicks r t p)
-      (λ k. sym (before (suc n) k))
-      (λ k. arrives (stop r t p) (suc n * stride r t p) p (reached (w .ramp) t p (suc n) k) ∙ sym (turn (suc n) (omega arith))))
-      (λ h. let e : suc (n - legTicks r t p) ≡ suc n - legTicks r t p = omega arith in
-      ap (tickOf r t) (after n h) ∙ last-leg r t (stop r t p) (then-target r t p) (n - legTicks r t p)
-      ∙ rw e (sym (after (suc n) (omega arith))))
+      by-way r t p
+      (λ k. rw k (sym (at-once r t p k (suc n) (omega arith))))
+      (λ k h. ap (tickOf r t) (straight w k h n) ∙ last-leg r t p k h n ∙ sym (straight w k h (suc n)))
+      (λ h. let k = halts-ramped r t p h in
+      by-less n (ticksToZero r t p)
+      (λ l. ap (tickOf r t) (before-zero w h n l)
+      ∙ (rw (stop-at-zero r t p h) at (onward r t p k n (rw (stop-at-zero r t p h) (short w n l))))
+      ∙ by-less (suc n) (ticksToZero r t p)
+      (λ m. sym (before-zero w h (suc n) m))
+      (λ m. arrives (pos 0) (suc n * stride r t p) p (reached w (suc n) m) ∙ sym (turn h (suc n) (omega arith))))
+      (λ l. let e : suc (n - ticksToZero r t p) ≡ suc n - ticksToZero r t p = omega arith in
+      ap (tickOf r t) (after-zero w h n l) ∙ last-leg r t (pos 0) k (halts-beside r t (pos 0) (from-zero t)) (n - ticksToZero r t p)
+      ∙ rw e (sym (after-zero w h (suc n) (omega arith)))))
 
   pub formula : (n : ℕ) → ticked r t p n ≡ positionAfter r t p n
   unfolding ticked
@@ -104,22 +83,27 @@ module _ {r : Ramp} {t p : ℤ} (w : Way r t p) where
 
   -- at no tick before the last: there is still a distance to go
   pub not-before : (n : ℕ) → n < ticksToGo r t p → positionAfter r t p n ≢ t
-  not-before n h e =
-      by-less n (legTicks r t p)
-      (λ k. let q : moved (stop r t p) (n * stride r t p) p ≡ t = sym (before n k) ∙ e in
-      let g : t ≡ stop r t p = sym (at-target r t) ∙ (rw q at (steady r t p n (short r t p n k) .stops)) in
-      let z : distance p (stop r t p) - n * stride r t p ≡ 0 = sym (moved-distance (stop r t p) _ p) ∙ rw (q, ← g) (distance-self t) in
-      let l = short r t p n k in omega arith)
-      (λ k. let z : distance (stop r t p) t - (n - legTicks r t p) * stride r t (stop r t p) ≡ 0 =
-      sym (moved-distance t _ (stop r t p)) ∙ rw (sym (after n k) ∙ e) (distance-self t) in
-      let l = short-again n k h in omega arith)
+  not-before n l e =
+      by-way r t p
+      (λ k. let z : n ≡ 0 = omega (arith, one-to-go r t p k) in
+      let q : p ≡ t = sym start ∙ (rw z at e) in
+      let o : ticksToGo r t p ≡ 0 = rw q (none-to-go r t) in omega arith)
+      (λ k h. short-of t _ p (too-few _ (strides (w .ramp) t p) n (rw (ticks-straight w k h) at l)) (sym (straight w k h n) ∙ e))
+      (λ h. by-less n (ticksToZero r t p)
+      (λ m. let f = stop-at-zero r t p h in
+      let q : moved (pos 0) (n * stride r t p) p ≡ t = sym (before-zero w h n m) ∙ e in
+      let g : stop r t t ≡ pos 0 = rw (f, q) at (steady r t p (n * stride r t p) (halts-ramped r t p h) (rw f (short w n m)) .stops) in
+      short-of (pos 0) _ p (short w n m) (q ∙ sym (stop-at-target r t t (halts-beside r t t (at-target t))) ∙ g))
+      (λ m. short-of t _ (pos 0) (too-few _ (strides (w .ramp) t (pos 0)) (n - ticksToZero r t p) (omega (arith, ticks-halting w h))) (sym (after-zero w h n m) ∙ e)))
 
   pub stays : (n : ℕ) → Inside (positionAfter r t p n)
   stays n =
-      let i = stop-inside r t p (w .target) in
-      by-less n (legTicks r t p)
-      (λ h. rw (before n h) (moved-inside _ _ p i (w .position)))
-      (λ h. rw (after n h) (moved-inside t _ _ (w .target) i))
+      by-way r t p
+      (λ k. by-less 0 n (λ l. rw (at-once r t p k n l) (w .target)) (λ l. let e : n ≡ 0 = omega arith in rw (e, start) (w .position)))
+      (λ k h. rw (straight w k h n) (moved-inside t _ p (w .target) (w .position)))
+      (λ h. by-less n (ticksToZero r t p)
+      (λ l. rw (before-zero w h n l) (moved-inside (pos 0) _ p zero-inside (w .position)))
+      (λ l. rw (after-zero w h n l) (moved-inside t _ (pos 0) (w .target) zero-inside)))
 
   -- the way that is left after n ticks
   pub way-after : (n : ℕ) → Way r t (positionAfter r t p n)

@@ -7,6 +7,10 @@ use lib.IntN.{ℤ}
 use Rattle.ramp.specs.Ramp.{ramped, opposite, ticked, ticksToGo, positionAfter, Inside, Way}
 use Rattle.ramp.specs.declared.Ramp.{Ramp}
 
+-- no way takes more ticks
+abbrev pub LATEST-TICK : ℕ
+LATEST-TICK = 7206322
+
 pub record Demand3 (r : Ramp) (t p : ℤ) : Type 0 where
   -- n single ticks end where the closed formula says
   pub formula : (n : ℕ) → ticked r t p n ≡ positionAfter r t p n
@@ -16,8 +20,8 @@ pub record Demand3 (r : Ramp) (t p : ℤ) : Type 0 where
   pub kept : (n : ℕ) → ticksToGo r t p ≤ n → positionAfter r t p n ≡ t
   -- and not met before
   pub first : (n : ℕ) → n < ticksToGo r t p → positionAfter r t p n ≢ t
-  -- it is met at tick 7,206,322 at the latest
-  pub latest : ticksToGo r t p ≤ 7206322
+  -- it is met by the latest tick
+  pub latest : ticksToGo r t p ≤ LATEST-TICK
   -- the position stays within full stroke
   pub stays : (n : ℕ) → Inside (positionAfter r t p n)
   -- on a ramp no tick crosses zero
@@ -29,4 +33,4 @@ pub record Longest : Type 0 where
   pub target : ℤ
   pub position : ℤ
   pub way : Way ramp target position
-  pub ticks : ticksToGo ramp target position ≡ 7206322
+  pub ticks : ticksToGo ramp target position ≡ LATEST-TICK

@@ -1,2 +1,3 @@
 pub mod Ramp
+pub mod Asked
 pub mod Demand

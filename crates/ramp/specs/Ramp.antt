@@ -3,13 +3,15 @@ use mathlib.Core.Bool.{Bool, not, _&&_, _||_}
 use Prim.Native.Nat.{ℕ, zero, suc, _+_, _-_, _*_, _/_, _≤_, max}
 use lib.IntN.{ℤ, pos, natAbs, _+ℤ_, _-ℤ_}
 use Rattle.integers.specs.Words.{if_then_else_, _<?_, _=?_, _below_}
-use Rattle.integers.specs.Range.{Within}
+use Rattle.objects.specs.Numbers.{FULL-POSITION}
+use Rattle.objects.specs.Places.{RAMP-TYPE, ACCELERATION}
+use Rattle.objects.specs.Table.{InRange}
 use Rattle.ramp.specs.declared.Times.{Times}
 use Rattle.ramp.specs.declared.Ramp.{Ramp}
 
--- full stroke, from zero to either end
-abbrev pub FULL-STROKE : ℕ
-FULL-STROKE = 1073741824
+-- types 1 to 3 have a ramp
+abbrev pub ramped : Ramp → Bool
+ramped r = not (r .kind =? pos 0)
 
 -- ---- times and steps
 
@@ -32,7 +34,7 @@ backTime r z =
 
 -- the step of a time: full stroke over it, the fraction dropped; time 0 has the step of time 1
 unfoldable pub stepOf : ℤ → ℕ
-stepOf time = FULL-STROKE / max (natAbs time) 1
+stepOf time = FULL-POSITION / max (natAbs time) 1
 
 -- ---- one tick
 
@@ -56,24 +58,25 @@ toward g m p = if p <? g then p +ℤ pos m else p -ℤ pos m
 unfoldable pub moved : ℤ → ℕ → ℤ → ℤ
 moved g m p = if m below distance p g then toward g m p else g
 
--- types 1 to 3 have a ramp
-abbrev pub ramped : Ramp → Bool
-ramped r = not (r .kind =? pos 0)
+-- the way halts at zero before it goes on to the target: on a ramp, from the far side of zero
+unfoldable pub halts : Ramp → ℤ → ℤ → Bool
+halts r t p = ramped r && opposite t p
 
--- where the ticks from p stop first: on a ramp at zero if p is on the far side of it, and else at the target
+-- where the ticks from p stop first: at zero, or at the target
 unfoldable pub stop : Ramp → ℤ → ℤ → ℤ
-stop r t p = if ramped r && opposite t p then pos 0 else t
+stop r t p = if halts r t p then pos 0 else t
 
--- by how much a tick moves from p: with no ramp the whole way; on a ramp toward zero on p's own side, or away from it on the target's
+-- the step of a tick on a ramp: it decelerates on p's own side, or else accelerates on the target's
 unfoldable pub stride : Ramp → ℤ → ℤ → ℕ
 stride r t p =
-    if not (ramped r) then distance p t
-    else if decelerates t p then stepOf (backTime r p)
+    if decelerates t p then stepOf (backTime r p)
     else stepOf (awayTime r t)
 
--- the position after one tick
+-- one tick: type 0 sets the position to the target, and a ramp moves it by the step
 unfoldable pub tickOf : Ramp → ℤ → ℤ → ℤ
-tickOf r t p = moved (stop r t p) (stride r t p) p
+tickOf r t p =
+    if not (ramped r) then t
+    else moved (stop r t p) (stride r t p) p
 
 -- the position after n single ticks
 unfoldable pub ticked : Ramp → ℤ → ℤ → ℕ → ℤ
@@ -82,32 +85,39 @@ ticked r t p (suc n) = tickOf r t (ticked r t p n)
 
 -- ---- ticks to go, and the closed formula
 
--- the ticks to the first stop: the distance over the step, rounded up
-unfoldable pub legTicks : Ramp → ℤ → ℤ → ℕ
-legTicks r t p = (distance p (stop r t p) + (stride r t p - 1)) / stride r t p
+-- a distance over a step, rounded up
+unfoldable pub roundedUp : ℕ → ℕ → ℕ
+roundedUp d s = (d + (s - 1)) / s
 
--- the ticks to the first stop and from there to the target, which are none if that is the target
+-- the ticks to zero
+unfoldable pub ticksToZero : Ramp → ℤ → ℤ → ℕ
+ticksToZero r t p = roundedUp (distance p (pos 0)) (stride r t p)
+
+-- 0 at the target; 1 for type 0 elsewhere; with a halt, the sum for the way to zero and for the way on; else the distance over the step, rounded up
 unfoldable pub ticksToGo : Ramp → ℤ → ℤ → ℕ
-ticksToGo r t p = legTicks r t p + legTicks r t (stop r t p)
+ticksToGo r t p =
+    if p =? t then 0
+    else if not (ramped r) then 1
+    else if halts r t p then ticksToZero r t p + roundedUp (distance (pos 0) t) (stride r t (pos 0))
+    else roundedUp (distance p t) (stride r t p)
 
--- the position after n ticks: n steps toward the first stop; from the tick k on that meets it, n - k steps from there to the target; then the target
+-- the target from that tick on; before it n steps toward the target; but with a halt, from the tick k on that meets zero, n - k steps out on the target's side
 unfoldable pub positionAfter : Ramp → ℤ → ℤ → ℕ → ℤ
 positionAfter r t p n =
-    let g = stop r t p in
-    let k = legTicks r t p in
-    if n below k then toward g (n * stride r t p) p
-    else if n below ticksToGo r t p then toward t ((n - k) * stride r t g) g
-    else t
+    if not (n below ticksToGo r t p) then t
+    else if not (halts r t p) then toward t (n * stride r t p) p
+    else if n below ticksToZero r t p then toward (pos 0) (n * stride r t p) p
+    else toward t ((n - ticksToZero r t p) * stride r t (pos 0)) (pos 0)
 
 -- ---- what is sound
 
 -- within full stroke
 pub record Inside (p : ℤ) : Type 0 where
-  pub inside : natAbs p ≤ FULL-STROKE
+  pub inside : natAbs p ≤ FULL-POSITION
 
--- the range of a time
+-- in the range of a time, which is the same for 6331h to 6336h
 abbrev pub Timed : ℤ → Type 0
-Timed time = Within (pos 0) (pos 3600000) time
+Timed time = InRange ACCELERATION time
 
 -- each of three times in its range
 pub record AllTimed (times : Times) : Type 0 where
@@ -117,7 +127,7 @@ pub record AllTimed (times : Times) : Type 0 where
 
 -- the type and each time in its range
 pub record Sound (r : Ramp) : Type 0 where
-  pub kind : Within (pos 0) (pos 3) (r .kind)
+  pub kind : InRange RAMP-TYPE (r .kind)
   pub acceleration : AllTimed (r .acceleration)
   pub deceleration : AllTimed (r .deceleration)
 

@@ -1,14 +1,14 @@
 // The ramp: one tick, a jump of n ticks, and the ticks to go.
 ghost use mathlib.Core.Path.{_≡_};
-ghost use Prim.Native.Nat.{_≤_, _<_};
 ghost use lib.IntN.{natAbs};
 ghost use Rattle.ramp.specs.Ramp.{
   sideOf,
   awayTime,
   backTime,
   stepOf,
+  roundedUp,
+  ticksToZero,
   tickOf,
-  legTicks,
   ticksToGo,
   positionAfter,
   Inside,
@@ -16,6 +16,7 @@ ghost use Rattle.ramp.specs.Ramp.{
   Way,
 };
 ghost use Rattle.ramp.specs.Ramp as Ramps;
+ghost use Rattle.ramp.specs.Asked.{BothInside, Spanned, Movable, Steppable};
 
 // The times of 6331h to 6333h, or of 6334h to 6336h.
 pub struct Times {
@@ -31,11 +32,12 @@ pub struct Ramp {
     pub deceleration: Times,
 }
 
-const FULL_STROKE: u64 = 1073741824;
+// Full stroke as a position, as steps and distances count.
+const FULL_POSITION: u64 = objects::FULL_POSITION as u64;
 
 // The number without its sign.
 fn size(z: i64) -> u64
-    requires { ⌜ natAbs z ≤ 2147483648 ⌝ }
+    requires { ⌜ Spanned z ⌝ }
     ensures { λ r. ⌜ r ≡ natAbs z ⌝ }
 {
     if z < 0 { (0 - z) as u64 } else { z as u64 }
@@ -83,9 +85,9 @@ fn step_of(time: i64) -> u64
 {
     let time = size(time);
     if time == 0 {
-        FULL_STROKE
+        FULL_POSITION
     } else {
-        FULL_STROKE / time
+        FULL_POSITION / time
     }
 }
 
@@ -96,24 +98,21 @@ fn opposite(t: i64, p: i64) -> bool
 }
 
 fn decelerates(t: i64, p: i64) -> bool
-    requires { ⌜ Inside t ⌝ }
-    requires { ⌜ Inside p ⌝ }
+    requires { ⌜ BothInside t p ⌝ }
     ensures { λ r. ⌜ r ≡ Ramps.decelerates t p ⌝ }
 {
     opposite(t, p) || size(t) < size(p)
 }
 
 fn distance(p: i64, g: i64) -> u64
-    requires { ⌜ Inside p ⌝ }
-    requires { ⌜ Inside g ⌝ }
+    requires { ⌜ BothInside p g ⌝ }
     ensures { λ r. ⌜ r ≡ Ramps.distance p g ⌝ }
 {
     size(p - g)
 }
 
 fn toward(g: i64, m: u64, p: i64) -> i64
-    requires { ⌜ m ≤ 2147483648 ⌝ }
-    requires { ⌜ Inside p ⌝ }
+    requires { ⌜ Movable m p ⌝ }
     ensures { λ r. ⌜ r ≡ Ramps.toward g m p ⌝ }
 {
     if p < g {
@@ -124,8 +123,7 @@ fn toward(g: i64, m: u64, p: i64) -> i64
 }
 
 fn moved(g: i64, m: u64, p: i64) -> i64
-    requires { ⌜ Inside g ⌝ }
-    requires { ⌜ Inside p ⌝ }
+    requires { ⌜ BothInside p g ⌝ }
     ensures { λ r. ⌜ r ≡ Ramps.moved g m p ⌝ }
 {
     if m < distance(p, g) {
@@ -135,16 +133,24 @@ fn moved(g: i64, m: u64, p: i64) -> i64
     }
 }
 
+fn ramped(ramp: Ramp) -> bool
+    ensures { λ r. ⌜ r ≡ Ramps.ramped ramp ⌝ }
+{
+    ramp.kind != 0
+}
+
+fn halts(ramp: Ramp, t: i64, p: i64) -> bool
+    ensures { λ r. ⌜ r ≡ Ramps.halts ramp t p ⌝ }
+{
+    ramped(ramp) && opposite(t, p)
+}
+
 fn stop(ramp: Ramp, t: i64, p: i64) -> i64
     requires { ⌜ Inside t ⌝ }
     ensures { λ r. ⌜ r ≡ Ramps.stop ramp t p ⌝ }
     ensures { λ r. ⌜ Inside r ⌝ }
 {
-    if ramp.kind != 0 && opposite(t, p) {
-        0
-    } else {
-        t
-    }
+    if halts(ramp, t, p) { 0 } else { t }
 }
 
 // The time is picked first, so that there is one division.
@@ -152,26 +158,24 @@ fn stride(ramp: Ramp, t: i64, p: i64) -> u64
     requires { ⌜ Way ramp t p ⌝ }
     ensures { λ r. ⌜ r ≡ Ramps.stride ramp t p ⌝ }
 {
-    if ramp.kind == 0 {
-        return distance(p, t);
-    }
     if decelerates(t, p) {
         return step_of(back_time(ramp, p));
     }
     step_of(away_time(ramp, t))
 }
 
-fn leg_ticks(ramp: Ramp, t: i64, p: i64) -> u64
-    requires { ⌜ Way ramp t p ⌝ }
-    ensures { λ r. ⌜ r ≡ legTicks ramp t p ⌝ }
+fn rounded_up(d: u64, s: u64) -> u64
+    requires { ⌜ Steppable d s ⌝ }
+    ensures { λ r. ⌜ r ≡ roundedUp d s ⌝ }
 {
-    let step = stride(ramp, t, p);
-    let way = distance(p, stop(ramp, t, p));
-    if step == 0 {
-        0
-    } else {
-        (way + (step - 1)) / step
-    }
+    (d + (s - 1)) / s
+}
+
+fn ticks_to_zero(ramp: Ramp, t: i64, p: i64) -> u64
+    requires { ⌜ Way ramp t p ⌝ }
+    ensures { λ r. ⌜ r ≡ ticksToZero ramp t p ⌝ }
+{
+    rounded_up(distance(p, 0), stride(ramp, t, p))
 }
 
 // The ticks until the target is met.
@@ -179,8 +183,17 @@ pub fn ticks_to_go(ramp: Ramp, t: i64, p: i64) -> u32
     requires { ⌜ Way ramp t p ⌝ }
     ensures { λ r. ⌜ r ≡ ticksToGo ramp t p ⌝ }
 {
-    let k = leg_ticks(ramp, t, p);
-    (k + leg_ticks(ramp, t, stop(ramp, t, p))) as u32
+    if p == t {
+        return 0;
+    }
+    if !ramped(ramp) {
+        return 1;
+    }
+    if halts(ramp, t, p) {
+        let k = ticks_to_zero(ramp, t, p);
+        return (k + rounded_up(distance(0, t), stride(ramp, t, 0))) as u32;
+    }
+    rounded_up(distance(p, t), stride(ramp, t, p)) as u32
 }
 
 // One tick.
@@ -188,6 +201,9 @@ pub fn tick(ramp: Ramp, t: i64, p: i64) -> i64
     requires { ⌜ Way ramp t p ⌝ }
     ensures { λ r. ⌜ r ≡ tickOf ramp t p ⌝ }
 {
+    if !ramped(ramp) {
+        return t;
+    }
     moved(stop(ramp, t, p), stride(ramp, t, p), p)
 }
 
@@ -196,11 +212,19 @@ pub fn jump(ramp: Ramp, t: i64, p: i64, n: u32) -> i64
     requires { ⌜ Way ramp t p ⌝ }
     ensures { λ r. ⌜ r ≡ positionAfter ramp t p n ⌝ }
 {
-    let n = n as u64;
-    let k = leg_ticks(ramp, t, p);
-    let g = stop(ramp, t, p);
-    if n < k {
-        return moved(g, n * stride(ramp, t, p), p);
+    if n == 0 {
+        return p;
     }
-    moved(t, (n - k) * stride(ramp, t, g), g)
+    if !ramped(ramp) {
+        return t;
+    }
+    let n = n as u64;
+    if !halts(ramp, t, p) {
+        return moved(t, n * stride(ramp, t, p), p);
+    }
+    let k = ticks_to_zero(ramp, t, p);
+    if n < k {
+        return moved(0, n * stride(ramp, t, p), p);
+    }
+    moved(t, (n - k) * stride(ramp, t, 0), 0)
 }

@@ -1,5 +1,3 @@
 pub mod Laws
-pub mod Machine
-pub mod Writes
-pub mod Written
+pub mod Frames
 pub mod Promises

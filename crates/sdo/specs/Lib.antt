@@ -1,5 +1,3 @@
 pub mod Frames
-pub mod Entries
-pub mod Aborts
-pub mod Asked
 pub mod Serve
+pub mod Asked

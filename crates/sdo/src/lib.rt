@@ -1,51 +1,12 @@
-// The SDO service: a request, the aborts in their order, reads and writes, and the bytes of the reply.
+// The SDO service: requests and replies as bytes. What becomes of a request is the dictionary's decision.
 ghost use mathlib.Core.Path.{_≡_};
-ghost use mathlib.Core.Bool.{true};
-ghost use mathlib.Core.List.{_++_};
-ghost use Prim.Native.Nat.{_<_, _≤_};
-ghost use lib.ListN.{length, drop};
-ghost use Rattle.device.specs.Events.{withBlock};
 ghost use Rattle.device.specs.Sound.{Sound};
-ghost use Rattle.sdo.specs.Frames.{requestOf, asksOf, frameOf, readReply, isDue, replyOf, repliedIn};
-ghost use Rattle.sdo.specs.Entries.{withSetting, withSetpoint, writtenTo};
-ghost use Rattle.sdo.specs.Entries as Entries;
-ghost use Rattle.sdo.specs.Aborts.{findEntry, rangeCode, verdictOn};
-ghost use Rattle.sdo.specs.Aborts as Aborts;
-ghost use Rattle.sdo.specs.Serve.{answer, readOf, writeOf, served};
-ghost use Rattle.sdo.specs.Asked.{At, Entered, Valued, Writing};
-use block::Block;
-use device::ACTIVE;
+ghost use Rattle.sdo.specs.Frames.{requestOf, asksOf, frameOf, readRequest, writeCommand, writeRequest, readReply, isDue, replyOf, repliedIn, numberHandedBack};
+ghost use Rattle.sdo.specs.Serve.{decisionOn, outcomeOf, served};
+ghost use Rattle.sdo.specs.Asked.{EightBytes, Due, ReplyRoom};
 use device::Device;
-use objects::CONTROL_WORD;
-use objects::ERROR_CODE;
-use objects::Entry;
-use objects::LOWER_LIMIT;
-use objects::Place;
-use objects::SET_POINT;
-use objects::SETTINGS;
-use objects::STATUS_WORD;
-use objects::UPPER_LIMIT;
-
-// The aborts, in document 01's order.
-const UNKNOWN_COMMAND: u32 = 0x05040001;
-
-const NO_OBJECT: u32 = 0x06020000;
-
-const NO_SUB_INDEX: u32 = 0x06090011;
-
-const READ_ONLY_ENTRY: u32 = 0x06010002;
-
-const WRONG_SIZE: u32 = 0x06070010;
-
-const TOO_HIGH: u32 = 0x06090031;
-
-const TOO_LOW: u32 = 0x06090032;
-
-const NO_SUCH_CHOICE: u32 = 0x06090030;
-
-const LIMITS_CROSSED: u32 = 0x06090036;
-
-const LOCKED_NOW: u32 = 0x08000022;
+use dictionary::Decision;
+use dictionary::UNKNOWN_COMMAND;
 
 // What a request says; the number is that of its four data bytes.
 pub struct Request {
@@ -62,18 +23,6 @@ pub enum Asks {
     Unknown,
 }
 
-// What an index and a sub-index name: an object by its place, a byte that never changes, or nothing, with the abort's code.
-pub enum Found {
-    Object(usize),
-    Byte(u8),
-    Nothing(u32),
-}
-
-pub enum Verdict {
-    Accepted,
-    Rejected(u32),
-}
-
 // What a request leads to: so many bytes of a number read, a write done, an abort with its code, or a refusal with its number.
 pub enum Outcome {
     Read { size: u8, number: u32 },
@@ -88,9 +37,11 @@ pub struct Answer {
     pub outcome: Outcome,
 }
 
+// ---- frames
+
 // The request in eight bytes.
 pub fn request_of(bytes: &[u8]) -> Request
-    requires { ⌜ length (now bytes) ≡ 8 ⌝ }
+    requires { ⌜ EightBytes (now bytes) ⌝ }
     ensures { λ q. ⌜ q ≡ requestOf (now (bytes .entry)) ⌝ }
 {
     Request {
@@ -100,6 +51,50 @@ pub fn request_of(bytes: &[u8]) -> Request
         number: coding::four_of(bytes[4], bytes[5], bytes[6], bytes[7]),
     }
 }
+
+// Command, index low first, sub-index, four bytes of a number low first.
+fn frame_of(command: u8, index: u16, sub: u8, number: u32) -> [u8; 8]
+    ensures { λ r. ⌜ r ≡ frameOf command index sub number ⌝ }
+{
+    [
+        command,
+        (index % 256) as u8,
+        (index / 256) as u8,
+        sub,
+        coding::byte_of(number, 0),
+        coding::byte_of(number, 1),
+        coding::byte_of(number, 2),
+        coding::byte_of(number, 3),
+    ]
+}
+
+// The eight bytes that ask for an entry.
+pub fn read_request(index: u16, sub: u8) -> [u8; 8]
+    ensures { λ r. ⌜ r ≡ readRequest index sub ⌝ }
+{
+    frame_of(0x40, index, sub, 0)
+}
+
+// The command byte of a write of so many bytes: 1, 2, 3, and else 4.
+fn write_command(size: u8) -> u8
+    ensures { λ r. ⌜ r ≡ writeCommand size ⌝ }
+{
+    match size {
+        1 => 0x2F,
+        2 => 0x2B,
+        3 => 0x27,
+        _ => 0x23,
+    }
+}
+
+// The eight bytes that write so many bytes of a number to an entry.
+pub fn write_request(index: u16, sub: u8, size: u8, number: u32) -> [u8; 8]
+    ensures { λ r. ⌜ r ≡ writeRequest index sub size number ⌝ }
+{
+    frame_of(write_command(size), index, sub, number)
+}
+
+// ---- the service
 
 fn asks_of(command: u8) -> Asks
     ensures { λ r. ⌜ r ≡ asksOf command ⌝ }
@@ -114,219 +109,42 @@ fn asks_of(command: u8) -> Asks
     }
 }
 
-fn entered(place: usize, entry: Entry) -> Found
-    ensures { λ r. ⌜ r ≡ Aborts.entered place entry ⌝ }
+// What becomes of a request.
+fn decision_on(device: Device, request: Request) -> Decision
+    requires { ⌜ Sound device ⌝ }
+    ensures { λ r. ⌜ r ≡ decisionOn device request ⌝ }
 {
-    match entry {
-        Entry::Value => Found::Object(place),
-        Entry::Fixed(byte) => Found::Byte(byte),
-        Entry::Missing => Found::Nothing(NO_SUB_INDEX),
+    let index = request.index;
+    let sub = request.sub;
+    match asks_of(request.command) {
+        Asks::Reads => dictionary::decide_read(device, index, sub),
+        Asks::Writes(size) => dictionary::decide_write(device, index, sub, size, request.number),
+        Asks::Unknown => Decision::Abort(UNKNOWN_COMMAND),
     }
 }
 
-// The entry of an index and a sub-index.
-fn find_entry(index: u16, sub: u8) -> Found
-    ensures { λ r. ⌜ r ≡ findEntry index sub ⌝ }
+fn outcome_of(decision: Decision) -> Outcome
+    ensures { λ r. ⌜ r ≡ outcomeOf decision ⌝ }
 {
-    match objects::place_of(index) {
-        Place::Nowhere => Found::Nothing(NO_OBJECT),
-        Place::At(place) => {
-            let row = objects::row_at(place);
-            entered(place, objects::entry_at(row.entries, sub))
-        }
+    match decision {
+        Decision::Read { size, number } => Outcome::Read { size, number },
+        Decision::Write { place: _, value: _ } => Outcome::Written,
+        Decision::Abort(code) => Outcome::Abort(code),
     }
 }
 
-// The value of an object that is no stored setting.
-fn other_value(device: Device, place: usize) -> i64
-    requires { ⌜ At device place ⌝ }
-    requires { ⌜ 17 ≤ place ⌝ }
-    ensures { λ r. ⌜ Valued device place r ⌝ }
-{
-    match place {
-        SET_POINT => {
-            let block = device.block;
-            block.setpoint
-        }
-        CONTROL_WORD => device.control as i64,
-        STATUS_WORD => device::status(device) as i64,
-        ERROR_CODE => device.error as i64,
-        _ => device::command(device),
-    }
-}
-
-// The value of the object at a place.
-fn value_at(device: Device, place: usize) -> i64
-    requires { ⌜ At device place ⌝ }
-    ensures { λ r. ⌜ Valued device place r ⌝ }
-{
-    if place < SETTINGS {
-        let block = device.block;
-        block::setting(block, place)
-    } else {
-        other_value(device, place)
-    }
-}
-
-fn read_object(device: Device, place: usize) -> Outcome
-    requires { ⌜ At device place ⌝ }
-    ensures { λ r. ⌜ r ≡ readOf device (Found.Object place) ⌝ }
-{
-    let row = objects::row_at(place);
-    let size = row.size;
-    let number = coding::number_of(size, value_at(device, place));
-    Outcome::Read { size, number }
-}
-
-fn read(device: Device, found: Found) -> Outcome
-    requires { ⌜ Entered device found ⌝ }
-    ensures { λ r. ⌜ r ≡ readOf device found ⌝ }
-{
-    match found {
-        Found::Object(place) => read_object(device, place),
-        Found::Byte(byte) => Outcome::Read {
-            size: 1,
-            number: byte as u32,
-        },
-        Found::Nothing(code) => Outcome::Abort(code),
-    }
-}
-
-// The upper limit would be below the lower after this write.
-fn crosses(device: Device, place: usize, value: i64) -> bool
-    ensures { λ r. ⌜ r ≡ Entries.crosses device place value ⌝ }
-{
-    let block = device.block;
-    match place {
-        UPPER_LIMIT => value < block::setting(block, LOWER_LIMIT),
-        LOWER_LIMIT => block::setting(block, UPPER_LIMIT) < value,
-        _ => false,
-    }
-}
-
-// A choice among numbered kinds has one code for both ways out of its range.
-fn range_code(choice: bool, code: u32) -> u32
-    ensures { λ r. ⌜ r ≡ rangeCode choice code ⌝ }
-{
-    if choice { NO_SUCH_CHOICE } else { code }
-}
-
-// The aborts of a write, from the fourth on.
-fn verdict_on(device: Device, place: usize, size: u8, value: i64) -> Verdict
-    requires { ⌜ place < 22 ⌝ }
-    ensures { λ r. ⌜ r ≡ verdictOn device place size value ⌝ }
-{
-    let row = objects::row_at(place);
-    if !row.writable {
-        return Verdict::Rejected(READ_ONLY_ENTRY);
-    }
-    if row.size != size {
-        return Verdict::Rejected(WRONG_SIZE);
-    }
-    if row.high < value {
-        return Verdict::Rejected(range_code(row.choice, TOO_HIGH));
-    }
-    if value < row.low {
-        return Verdict::Rejected(range_code(row.choice, TOO_LOW));
-    }
-    if crosses(device, place, value) {
-        return Verdict::Rejected(LIMITS_CROSSED);
-    }
-    if row.locked && device.state == ACTIVE {
-        return Verdict::Rejected(LOCKED_NOW);
-    }
-    Verdict::Accepted
-}
-
-fn with_setting(block: Block, place: usize, value: i64) -> Block
-    requires { ⌜ place < 17 ⌝ }
-    ensures { λ r. ⌜ r ≡ withSetting place value block ⌝ }
-{
-    let mut written = block;
-    written.settings[place] = value;
-    written
-}
-
-fn with_setpoint(block: Block, value: i64) -> Block
-    ensures { λ r. ⌜ r ≡ withSetpoint value block ⌝ }
-{
-    let mut written = block;
-    written.setpoint = value;
-    written
-}
-
-fn with_block(device: Device, block: Block) -> Device
-    ensures { λ r. ⌜ r ≡ withBlock block device ⌝ }
-{
-    let mut written = device;
-    written.block = block;
-    written
-}
-
-// An accepted write.
-fn written_to(device: Device, place: usize, value: i64) -> Device
-    requires { ⌜ Writing device place value ⌝ }
-    ensures { λ r. ⌜ r ≡ writtenTo place value device ⌝ }
-{
-    let block = device.block;
-    if place < SETTINGS {
-        return with_block(device, with_setting(block, place, value));
-    }
-    match place {
-        SET_POINT => with_block(device, with_setpoint(block, value)),
-        _ => device::control(device, value as u16),
-    }
-}
-
-fn aborted(device: Device, code: u32) -> Answer
-    ensures { λ r. ⌜ r ≡ answer (Outcome.Abort code) device ⌝ }
-{
-    let outcome = Outcome::Abort(code);
-    Answer { device, outcome }
-}
-
-fn write_object(device: Device, place: usize, size: u8, number: u32) -> Answer
-    requires { ⌜ At device place ⌝ }
-    ensures { λ r. ⌜ r ≡ writeOf device size number (Found.Object place) ⌝ }
-{
-    let row = objects::row_at(place);
-    let value = coding::value_of(row.size, row.signed, number);
-    match verdict_on(device, place, size, value) {
-        Verdict::Rejected(code) => aborted(device, code),
-        Verdict::Accepted => {
-            let device = written_to(device, place, value);
-            let outcome = Outcome::Written;
-            Answer { device, outcome }
-        }
-    }
-}
-
-fn write(device: Device, size: u8, number: u32, found: Found) -> Answer
-    requires { ⌜ Entered device found ⌝ }
-    ensures { λ r. ⌜ r ≡ writeOf device size number found ⌝ }
-{
-    match found {
-        Found::Object(place) => write_object(device, place, size, number),
-        Found::Byte(_) => aborted(device, READ_ONLY_ENTRY),
-        Found::Nothing(code) => aborted(device, code),
-    }
-}
-
-// The answer to a request.
+// The answer to a request: decided, then done.
 pub fn serve(device: Device, request: Request) -> Answer
     requires { ⌜ Sound device ⌝ }
     ensures { λ r. ⌜ r ≡ served device request ⌝ }
 {
-    let found = find_entry(request.index, request.sub);
-    match asks_of(request.command) {
-        Asks::Reads => {
-            let outcome = read(device, found);
-            Answer { device, outcome }
-        }
-        Asks::Writes(size) => write(device, size, request.number, found),
-        Asks::Unknown => aborted(device, UNKNOWN_COMMAND),
-    }
+    let decision = decision_on(device, request);
+    let outcome = outcome_of(decision);
+    let device = dictionary::carry_out(device, decision);
+    Answer { device, outcome }
 }
+
+// ---- replies
 
 fn read_reply(size: u8) -> u8
     ensures { λ r. ⌜ r ≡ readReply size ⌝ }
@@ -338,35 +156,7 @@ fn read_reply(size: u8) -> u8
     }
 }
 
-fn frame_of(command: u8, request: Request, number: u32) -> [u8; 8]
-    ensures { λ r. ⌜ r ≡ frameOf command request number ⌝ }
-{
-    let index = request.index;
-    [
-        command,
-        (index % 256) as u8,
-        (index / 256) as u8,
-        request.sub,
-        coding::byte_of(number, 0),
-        coding::byte_of(number, 1),
-        coding::byte_of(number, 2),
-        coding::byte_of(number, 3),
-    ]
-}
-
-// The bytes of a reply that is due.
-fn reply_of(outcome: Outcome, request: Request) -> [u8; 8]
-    requires { ⌜ isDue outcome ≡ true ⌝ }
-    ensures { λ r. ⌜ r ≡ replyOf outcome request ⌝ }
-{
-    match outcome {
-        Outcome::Read { size, number } => frame_of(read_reply(size), request, number),
-        Outcome::Written => frame_of(0x60, request, 0),
-        Outcome::Abort(code) => frame_of(0x80, request, code),
-        Outcome::Refused(_) => frame_of(0, request, 0),
-    }
-}
-
+// A reply is due to all but a refusal.
 pub fn is_due(outcome: Outcome) -> bool
     ensures { λ r. ⌜ r ≡ isDue outcome ⌝ }
 {
@@ -378,24 +168,40 @@ pub fn is_due(outcome: Outcome) -> bool
     }
 }
 
-// Eight bytes go to the front of the room; later bytes stay.
-fn put(room: &mut [u8], bytes: [u8; 8])
-    requires { ⌜ 8 ≤ length (now room) ⌝ }
-    ensures { λ _. ⌜ now (room .exit) ≡ bytes ++ drop 8 (now (room .entry)) ⌝ }
+// The bytes of a reply that is due.
+fn reply_of(outcome: Outcome, request: Request) -> [u8; 8]
+    requires { ⌜ Due outcome ⌝ }
+    ensures { λ r. ⌜ r ≡ replyOf outcome request ⌝ }
 {
-    let mut i = 0;
-    while i < 8 {
-        room[i] = bytes[i];
-        i += 1;
+    let index = request.index;
+    let sub = request.sub;
+    match outcome {
+        Outcome::Read { size, number } => frame_of(read_reply(size), index, sub, number),
+        Outcome::Written => frame_of(0x60, index, sub, 0),
+        Outcome::Abort(code) => frame_of(0x80, index, sub, code),
+        Outcome::Refused(_) => frame_of(0, index, sub, 0),
     }
 }
 
 // The reply of an outcome to a request, where one is due.
 pub fn reply(outcome: Outcome, request: Request, room: &mut [u8])
-    requires { ⌜ 8 ≤ length (now room) ⌝ }
+    requires { ⌜ ReplyRoom (now room) ⌝ }
     ensures { λ _. ⌜ now (room .exit) ≡ repliedIn outcome request (now (room .entry)) ⌝ }
 {
     if is_due(outcome) {
-        put(room, reply_of(outcome, request));
+        let bytes = reply_of(outcome, request);
+        coding::put(room, 0, &bytes);
+    }
+}
+
+// The number handed back.
+pub fn number_of(outcome: Outcome) -> u8
+    ensures { λ r. ⌜ r ≡ numberHandedBack outcome ⌝ }
+{
+    match outcome {
+        Outcome::Read { size: _, number: _ } => 0,
+        Outcome::Written => 0,
+        Outcome::Abort(_) => 0,
+        Outcome::Refused(number) => number,
     }
 }

@@ -12,12 +12,11 @@ use image::IMAGE_LENGTH;
 use rainsheave::Change;
 use rainsheave::Reading;
 use rainsheave::Report;
-use sdo::Outcome;
 
 // A run: its device, and the image that was stored last.
 pub struct Run {
     pub device: Device,
-    pub image: [u8; 97],
+    pub image: [u8; IMAGE_LENGTH],
 }
 
 // What a record says.
@@ -41,6 +40,8 @@ const RECORD_LENGTH: usize = 16;
 const REPLY_ROOM: usize = 12;
 
 const IMAGE_ROOM: usize = 100;
+
+const LONGER_LENGTH: usize = IMAGE_LENGTH + 1;
 
 const UNTOUCHED: u8 = 0xAA;
 
@@ -79,7 +80,7 @@ const LONGER: u8 = 3;
 // A run at its start.
 pub fn start() -> Run {
     let device = rainsheave::fresh();
-    let image = [0u8; 97];
+    let image = [0u8; IMAGE_LENGTH];
     Run { device, image }
 }
 
@@ -99,11 +100,6 @@ fn first_mut(bytes: &mut [u8], n: usize) -> &mut [u8] {
     } else {
         bytes
     }
-}
-
-// The byte at a place; past the end it is 0.
-fn byte_at(bytes: &[u8], place: usize) -> u8 {
-    if place < bytes.len() { bytes[place] } else { 0 }
 }
 
 // ---- the parts of a line
@@ -129,29 +125,13 @@ fn put_device(text: &mut [u8], at: usize, device: Device) -> usize {
     put(text, at, b'\n')
 }
 
-fn number_of(report: Report) -> u8 {
-    match report {
-        Report::Done => 0,
-        Report::Refused(number) => number,
-    }
-}
-
-fn number_of_outcome(outcome: Outcome) -> u8 {
-    match outcome {
-        Outcome::Read { size: _, number: _ } => 0,
-        Outcome::Written => 0,
-        Outcome::Abort(_) => 0,
-        Outcome::Refused(number) => number,
-    }
-}
-
 // ---- the events
 
 // A call that hands back a number and a device, and nothing more.
 fn trace_change(run: Run, change: Change, text: &mut [u8], at: usize, name: &[u8]) -> Traced {
     let device = change.device;
     let report = change.report;
-    let end = put_result(text, at, name, number_of(report));
+    let end = put_result(text, at, name, rainsheave::number_of_report(report));
     let run = with_device(run, device);
     Traced { run, end }
 }
@@ -168,7 +148,7 @@ fn trace_sdo_in(run: Run, request: &[u8], room: &mut [u8], text: &mut [u8], at: 
     let answer = rainsheave::sdo(device, request, room);
     let device = answer.device;
     let outcome = answer.outcome;
-    let at = put_result(text, at, b"sdo", number_of_outcome(outcome));
+    let at = put_result(text, at, b"sdo", rainsheave::number_of_outcome(outcome));
     let end = put_bytes(text, at, room);
     let run = with_device(run, device);
     Traced { run, end }
@@ -196,11 +176,11 @@ fn ticks(device: Device, n: u16) -> Change {
 }
 
 // The image at the start of a room.
-fn image_in(room: &[u8]) -> [u8; 97] {
-    let mut image = [0u8; 97];
+fn image_in(room: &[u8]) -> [u8; IMAGE_LENGTH] {
+    let mut image = [0u8; IMAGE_LENGTH];
     let mut i = 0;
     while i < IMAGE_LENGTH {
-        let byte = byte_at(room, i);
+        let byte = coding::byte_at(room, i);
         image[i] = byte;
         i += 1;
     }
@@ -221,7 +201,7 @@ fn stored(run: Run, number: u8, room: &[u8]) -> Run {
 // A store, with its room.
 fn trace_store_in(run: Run, room: &mut [u8], text: &mut [u8], at: usize) -> Traced {
     let device = run.device;
-    let number = number_of(rainsheave::store(device, room));
+    let number = rainsheave::number_of_report(rainsheave::store(device, room));
     let at = put_result(text, at, b"store", number);
     let end = put_bytes(text, at, room);
     let run = stored(run, number, room);
@@ -235,8 +215,8 @@ fn trace_store(run: Run, event: Event, text: &mut [u8], at: usize) -> Traced {
 }
 
 // The image with one byte more at its end.
-fn longer(image: [u8; 97], last: u8) -> [u8; 98] {
-    let mut bytes = [last; 98];
+fn longer(image: [u8; IMAGE_LENGTH], last: u8) -> [u8; LONGER_LENGTH] {
+    let mut bytes = [last; LONGER_LENGTH];
     let mut i = 0;
     while i < IMAGE_LENGTH {
         bytes[i] = image[i];
@@ -245,7 +225,7 @@ fn longer(image: [u8; 97], last: u8) -> [u8; 98] {
     bytes
 }
 
-fn replaced(image: [u8; 97], word: u16, byte: u8) -> [u8; 97] {
+fn replaced(image: [u8; IMAGE_LENGTH], word: u16, byte: u8) -> [u8; IMAGE_LENGTH] {
     let place = word as usize % IMAGE_LENGTH;
     let mut bytes = image;
     bytes[place] = byte;
@@ -373,24 +353,24 @@ fn trace_kind(run: Run, event: Event, text: &mut [u8], at: usize) -> Traced {
 
 fn event_of(record: &[u8]) -> Event {
     let bytes = [
-        byte_at(record, 8),
-        byte_at(record, 9),
-        byte_at(record, 10),
-        byte_at(record, 11),
-        byte_at(record, 12),
-        byte_at(record, 13),
-        byte_at(record, 14),
-        byte_at(record, 15),
+        coding::byte_at(record, 8),
+        coding::byte_at(record, 9),
+        coding::byte_at(record, 10),
+        coding::byte_at(record, 11),
+        coding::byte_at(record, 12),
+        coding::byte_at(record, 13),
+        coding::byte_at(record, 14),
+        coding::byte_at(record, 15),
     ];
     Event {
-        kind: byte_at(record, 0),
-        small: byte_at(record, 1),
-        word: coding::two_of(byte_at(record, 2), byte_at(record, 3)),
+        kind: coding::byte_at(record, 0),
+        small: coding::byte_at(record, 1),
+        word: coding::two_of(coding::byte_at(record, 2), coding::byte_at(record, 3)),
         number: coding::four_of(
-            byte_at(record, 4),
-            byte_at(record, 5),
-            byte_at(record, 6),
-            byte_at(record, 7),
+            coding::byte_at(record, 4),
+            coding::byte_at(record, 5),
+            coding::byte_at(record, 6),
+            coding::byte_at(record, 7),
         ),
         bytes: bytes,
     }

@@ -1,12 +1,12 @@
 // Devices that are not sound, and the calls that they are handed to.
 use crate::Event;
 use crate::UNTOUCHED;
-use crate::number_of;
-use crate::number_of_outcome;
 use device::ACTIVE;
 use device::Device;
 use device::FAULT;
 use device::HOLD;
+use image::IMAGE_LENGTH;
+use objects::FULL_POSITION;
 use objects::LOWER_LIMIT;
 use objects::SETTINGS;
 use objects::UPPER_LIMIT;
@@ -16,7 +16,7 @@ use rainsheave::Change;
 const NO_STATE: u8 = 4;
 
 // One part beyond full stroke.
-const BEYOND: i64 = 1073741825;
+const BEYOND: i64 = FULL_POSITION + 1;
 
 // No setting's range has it.
 const OUT_OF_RANGE: i64 = -40000;
@@ -40,26 +40,18 @@ fn with_wrong_error(device: Device) -> Device {
 
 fn with_position(device: Device, position: i64) -> Device {
     let block = device.block;
-    let block = block::at_position(block, position);
-    let mut other = device;
-    other.block = block;
-    other
+    device::with_block(device, block::at_position(block, position))
 }
 
-fn with_settings(device: Device, settings: [i64; 17]) -> Device {
-    let mut block = device.block;
-    block.settings = settings;
-    let mut other = device;
-    other.block = block;
-    other
+fn with_settings(device: Device, settings: [i64; SETTINGS]) -> Device {
+    let block = device.block;
+    device::with_block(device, block::with_settings(block, settings))
 }
 
 fn with_wrong_setting(device: Device, word: u16) -> Device {
     let block = device.block;
-    let mut settings = block.settings;
     let place = word as usize % SETTINGS;
-    settings[place] = OUT_OF_RANGE;
-    with_settings(device, settings)
+    device::with_block(device, block::with_setting(block, place, OUT_OF_RANGE))
 }
 
 fn with_crossed_limits(device: Device) -> Device {
@@ -93,23 +85,23 @@ pub fn altered(device: Device, way: u8, word: u16) -> Device {
 
 fn number_of_change(change: Change) -> u8 {
     let report = change.report;
-    number_of(report)
+    rainsheave::number_of_report(report)
 }
 
 fn call_sdo(device: Device, bytes: [u8; 8]) -> u8 {
     let mut room = [UNTOUCHED; 8];
     let answer = rainsheave::sdo(device, &bytes, &mut room);
     let outcome = answer.outcome;
-    number_of_outcome(outcome)
+    rainsheave::number_of_outcome(outcome)
 }
 
 fn call_store(device: Device) -> u8 {
-    let mut room = [UNTOUCHED; 97];
-    number_of(rainsheave::store(device, &mut room))
+    let mut room = [UNTOUCHED; IMAGE_LENGTH];
+    rainsheave::number_of_report(rainsheave::store(device, &mut room))
 }
 
 // The number that a call hands back, one of eight.
-pub fn call(device: Device, event: Event, image: [u8; 97]) -> u8 {
+pub fn call(device: Device, event: Event, image: [u8; IMAGE_LENGTH]) -> u8 {
     let bytes = event.bytes;
     let which = event.number % 8;
     match which {

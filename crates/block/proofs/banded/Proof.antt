@@ -7,18 +7,22 @@ use mir.Val.{SFits, toZ, ofZ}
 use mir.Facts.{toZ-ofZ}
 use Rattle.integers.proofs.Machine.{lt-told}
 use Rattle.integers.proofs.Range.{fits, plus, less, negated}
+use Rattle.objects.specs.Table.{objects}
 use Rattle.block.specs.Command.{banded}
 use Rattle.block.proofs.banded.Statement.{statement}
 use Rattle.block.proofs.banded.Tie as tie
 
 module _ (s : tie.Start) where
   above : SFits w64 (s .args .r +ℤ s .args .a-side)
+  unfolding objects
   above = fits (plus (s .pre .whole) (s .pre .a-side)) tt tt
 
   below : SFits w64 (s .args .r -ℤ s .args .b-side)
+  unfolding objects
   below = fits (less (s .pre .whole) (s .pre .b-side)) tt tt
 
   negative : SFits w64 (negℤ (s .args .threshold))
+  unfolding objects
   negative = fits (negated (s .pre .threshold)) tt tt
 
   negative-told : toZ w64 (ofZ w64 (pos 0 -ℤ toZ w64 (ofZ w64 (s .args .threshold)))) ≡ negℤ (s .args .threshold)

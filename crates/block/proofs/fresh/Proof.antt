@@ -6,16 +6,17 @@ use borrow.Author.Needs.{needs}
 use mir.Syntax.{w64}
 use mir.Val.{SFits}
 use mir.Facts.{toZ-ofZ}
-use Rattle.block.specs.Sound.{freshBlock}
+use Rattle.objects.specs.Places.{SETTINGS}
+use Rattle.block.specs.Block.{freshBlock}
 use Rattle.block.proofs.Stored.{Stored, stored-more, stored-all}
 use Rattle.block.proofs.fresh.Statement.{statement}
 use Rattle.block.proofs.fresh.Tie as tie
 
 abbrev Inv-loop : tie.InvT-loop
-Inv-loop settings₀ place₀ settings place = (place ≤ 17) × Stored place settings
+Inv-loop settings₀ place₀ settings place = (place ≤ SETTINGS) × Stored place settings
 
 abbrev μ-loop : tie.MeasureT-loop
-μ-loop settings₀ place₀ settings place = 17 - place
+μ-loop settings₀ place₀ settings place = SETTINGS - place
 
 pub fresh-spec : {M : Type 1} → statement M
 unfolding freshBlock
@@ -39,5 +40,5 @@ fresh-spec =
     let row = c .before .row-at2 in
     let f : SFits w64 (row .result .fresh) = search needs in
     let loop = c .before .before .before .loop in
-    let end : loop .place ≡ 17 = omega arith in
+    let end : loop .place ≡ SETTINGS = omega arith in
     rw (toZ-ofZ f, row .ensures, stored-all (rw end at (loop .inv .1)))))

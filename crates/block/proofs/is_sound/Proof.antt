@@ -1,22 +1,32 @@
 -- The code and the definition make the same three tests: `first` is the two on the left.
 use mathlib.Core.Path.{_≡_, sym, _∙_}
-use mathlib.Core.Bool.{_&&_}
+use mathlib.Core.Bool.{Bool, _&&_}
 use mathlib.Core.Logic.{⊎-elim}
 use borrow.Author.Needs.{needs}
+use lib.IntN.{pos}
+use Rattle.integers.specs.Words.{minus}
+use Rattle.objects.specs.Numbers.{FULL-POSITION}
+use Rattle.objects.specs.Places.{SET-POINT}
 use Rattle.objects.specs.Table.{rowAt}
-use Rattle.block.specs.Sound.{inRow, soundSettings, soundBlock}
+use Rattle.block.specs.Sound.{liesIn, inRow, soundBlock}
+use Rattle.block.specs.declared.Block.{Block}
 use Rattle.block.proofs.is_sound.Statement.{statement}
 use Rattle.block.proofs.is_sound.Tie as tie
 
-first : (c : tie.Joined1) → let b = c .before .before .before .before .args .block in c .if1 .if2 ≡ (soundSettings (b .settings) && inRow (rowAt 17) (b .setpoint))
+abbrev firstTwo : Block → Bool
+firstTwo b = liesIn (minus FULL-POSITION) (pos FULL-POSITION) (b .position) && inRow (rowAt SET-POINT) (b .setpoint)
+
+first : (c : tie.Joined1) → c .if1 .if2 ≡ firstTwo (c .before .before .before .before .before .args .block)
 first c =
-    let all = c .before in
-    let row = all .before .row-at in
+    let one = c .before in
+    let row = one .before .before .row-at in
+    let b = one .before .before .before .before .args .block in
+    let position : one .lies-in .result ≡ liesIn (minus FULL-POSITION) (pos FULL-POSITION) (b .position) = one .lies-in .ensures ∙ search needs in
     ⊎-elim
     (λ w.
-    let e : w .4 .result ≡ inRow (row .result) (all .before .before .before .args .block .setpoint) = w .4 .ensures ∙ search needs in
-    w .5 ∙ e ∙ simp (row .ensures, sym (all .sound-settings .ensures) ∙ w .0 .taken))
-    (λ w. w .1 ∙ w .0 .left ∙ simp (sym (all .sound-settings .ensures) ∙ w .0 .left))
+    let e : w .4 .result ≡ inRow (row .result) (b .setpoint) = w .4 .ensures ∙ search needs in
+    w .5 ∙ e ∙ simp (row .ensures, sym position ∙ w .0 .taken))
+    (λ w. w .1 ∙ w .0 .left ∙ simp (sym position ∙ w .0 .left))
     (c .if1 .came)
 
 pub is-sound-spec : {M : Type 1} → statement M
@@ -25,11 +35,9 @@ is-sound-spec =
     tie.close
     (tie.spec
     (λ c κs. search needs)
-    (λ c κs. search needs)
-    (λ c κs. search needs)
     (λ c. search needs)
     (λ c κs. search needs)
-    (λ c.
-    let t = c .before .before in
-    c .lies-in2 .ensures ∙ search (needs, sym (first (t .before)) ∙ t .if2 .taken))
+    (λ c κs. search needs)
+    (λ c κs. search needs)
+    (λ c. c .sound-settings .ensures ∙ simp (sym (first (c .before .before)) ∙ c .before .if2 .taken))
     (λ c. c .if2 .left ∙ simp (sym (first (c .before)) ∙ c .if2 .left)))

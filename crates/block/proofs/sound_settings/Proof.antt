@@ -11,7 +11,8 @@ use lib.ListN.{length}
 use Rattle.integers.specs.Words.{each}
 use Rattle.integers.proofs.Each.{each-none, each-more, each-fails}
 use Rattle.objects.specs.Table.{rowAt}
-use Rattle.block.specs.Target.{at}
+use Rattle.objects.specs.Places.{SETTINGS}
+use Rattle.block.specs.Block.{at}
 use Rattle.block.specs.Sound.{inRow, soundSettings}
 use Rattle.block.proofs.sound_settings.Statement.{statement}
 use Rattle.block.proofs.sound_settings.Tie as tie
@@ -20,10 +21,10 @@ abbrev inRange : List ℤ → ℕ → Bool
 inRange settings place = inRow (rowAt place) (at settings place)
 
 abbrev Inv-loop : tie.InvT-loop
-Inv-loop settings place₀ place = (place ≤ 17) × (each place (inRange settings) ≡ true)
+Inv-loop settings place₀ place = (place ≤ SETTINGS) × (each place (inRange settings) ≡ true)
 
 abbrev μ-loop : tie.MeasureT-loop
-μ-loop settings place₀ place = 17 - place
+μ-loop settings place₀ place = SETTINGS - place
 
 test : (c : tie.After-lies-in Inv-loop μ-loop) → let l = c .before .before .before .before .before .before in c .lies-in .result ≡ inRange (l .before .args .t1) (l .loop .place)
 test c =
@@ -32,7 +33,7 @@ test c =
     let e : c .lies-in .result ≡ inRow (row .result) (at (l .before .args .t1) (l .loop .place)) = c .lies-in .ensures ∙ search needs in
     e ∙ simp (row .ensures)
 
-long : (s : tie.Start Inv-loop μ-loop) → length (s .args .t1) ≡ 17
+long : (s : tie.Start Inv-loop μ-loop) → length (s .args .t1) ≡ SETTINGS
 long s = search needs
 
 pub sound-settings-spec : {M : Type 1} → statement M
@@ -49,7 +50,7 @@ sound-settings-spec =
     (λ c κs. search needs)
     (λ c.
     let l = c .before .before .before .before .before .before .before in
-    simp (long (l .before), each-fails 17 (inRange (l .before .args .t1)) (l .loop .place) (omega arith) (sym (test (c .before)) ∙ not-true _ (c .if1 .taken))))
+    simp (long (l .before), each-fails SETTINGS (inRange (l .before .args .t1)) (l .loop .place) (omega arith) (sym (test (c .before)) ∙ not-true _ (c .if1 .taken))))
     (λ c. search needs)
     (λ c. search needs)
     (λ c. (search needs, each-more _ _ (c .before .before .before .before .before .before .before .loop .inv .1) (sym (test (c .before)) ∙ not-false _ (c .if1 .left))))
@@ -57,5 +58,5 @@ sound-settings-spec =
     (λ c. search needs)
     (λ c.
     let l = c .before .before .before in
-    let end : l .loop .place ≡ 17 = omega arith in
+    let end : l .loop .place ≡ SETTINGS = omega arith in
     search (needs, long (l .before), rw end at (l .loop .inv .1))))

@@ -6,7 +6,9 @@ use mir.Syntax.{w64}
 use mir.Val.{SFits, toZ, ofZ}
 use mir.Facts.{toZ-ofZ}
 use Rattle.integers.proofs.Range.{fits, plus}
-use Rattle.block.specs.Asked.{Integer16, Scaling}
+use Rattle.objects.specs.Places.{SET-POINT}
+use Rattle.objects.specs.Table.{objects, InRange}
+use Rattle.block.specs.Asked.{Scaling}
 use Rattle.block.specs.Target.{clampTo, scaledBy, targetFrom}
 use Rattle.block.proofs.Laws.{clamp-one, scaled-within}
 use Rattle.integers.proofs.Machine.{told}
@@ -21,12 +23,15 @@ module _ (s : tie.Start) where
   scaled = scaledBy (s .args .factor) value
 
   scaling : Scaling (s .args .factor) value
-  scaling = let p = s .pre in record { factor = p .factor; value = clamp-one Integer16 (p .lower) (p .upper) (p .input) }
+  unfolding objects
+  scaling = let p = s .pre in record { factor = p .factor; value = clamp-one (InRange SET-POINT) (p .lower) (p .upper) (p .input) }
 
   moved : SFits w64 (scaled +ℤ s .args .offset)
+  unfolding objects
   moved = fits (plus (scaled-within scaling) (s .pre .offset)) tt tt
 
   sum : SFits w64 (scaled +ℤ s .args .offset +ℤ s .args .zero)
+  unfolding objects
   sum = fits (plus (plus (scaled-within scaling) (s .pre .offset)) (s .pre .zero)) tt tt
 
 clamp-told : (c : tie.After-clamp-to) → toZ w64 (ofZ w64 (c .clamp-to .result)) ≡ value (c .before)

@@ -5,14 +5,15 @@ use mir.Syntax.{w64}
 use mir.Val.{SFits}
 use mir.Facts.{toZ-ofZ}
 use Rattle.integers.proofs.Range.{fits, times, exactly}
+use Rattle.objects.specs.Numbers.{PARTS}
 use Rattle.block.specs.Target.{targetOf, targetPosition}
 use Rattle.block.proofs.Laws.{target-within}
 use Rattle.integers.proofs.Machine.{told}
 use Rattle.block.proofs.target_position.Statement.{statement}
 use Rattle.block.proofs.target_position.Tie as tie
 
-product : (s : tie.Start) → SFits w64 (targetOf (s .args .active) (s .args .block) *ℤ pos 65536)
-product s = fits (times (target-within _ _) (exactly (pos 65536))) tt tt
+product : (s : tie.Start) → SFits w64 (targetOf (s .args .active) (s .args .block) *ℤ pos PARTS)
+product s = fits (times (target-within _ _) (exactly (pos PARTS))) tt tt
 
 pub target-position-spec : {M : Type 1} → statement M
 unfolding targetPosition

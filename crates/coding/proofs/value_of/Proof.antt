@@ -15,5 +15,5 @@ value-of-spec =
     (tie.spec
     (λ c κs. search needs)
     (λ c. let s = a-span (c .before .args .size) in search needs)
-    (λ c κs. let s = a-span (c .before .args .size) in rw (c .span .ensures) (mod-lt _ (s .some), s .most))
+    (λ c κs. let s = a-span (c .before .args .size) in rw (c .span .ensures) (record { below = mod-lt _ (s .some); four = s .most }))
     (λ c. told (c .in-span) ∙ simp (c .before .span .ensures)))

@@ -2,7 +2,7 @@
 use borrow.Author.Needs.{needs}
 use Rattle.integers.proofs.Machine.{told}
 use Rattle.device.specs.Queries.{deviceCommand}
-use Rattle.device.proofs.Laws.{sound-block}
+use Rattle.device.proofs.Laws.{block-of-sound}
 use Rattle.device.proofs.command.Statement.{statement}
 use Rattle.device.proofs.command.Tie as tie
 
@@ -12,7 +12,7 @@ command-spec =
     tie.close
     (tie.spec
     (λ c κs. search needs)
-    (λ c κs. sound-block (c .before .before .before .pre))
+    (λ c κs. block-of-sound (c .before .before .before .pre))
     (λ c.
     let t = c .before .before in
     rw (← t .before .driven .ensures, t .if1 .taken) (told (c .command)))

@@ -1,6 +1,6 @@
 -- The block is the fresh one.
 use borrow.Author.Needs.{needs}
-use Rattle.device.specs.Events.{freshDevice}
+use Rattle.device.specs.Device.{freshDevice}
 use Rattle.device.proofs.fresh.Statement.{statement}
 use Rattle.device.proofs.fresh.Tie as tie
 

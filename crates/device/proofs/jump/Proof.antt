@@ -1,7 +1,7 @@
 -- The code and the definition make the same choice, of a sound device's block, which is sound.
 use borrow.Author.Needs.{needs}
 use Rattle.device.specs.Events.{jumpDevice}
-use Rattle.device.proofs.Laws.{sound-block}
+use Rattle.device.proofs.Laws.{block-of-sound}
 use Rattle.device.proofs.jump.Statement.{statement}
 use Rattle.device.proofs.jump.Tie as tie
 
@@ -11,6 +11,7 @@ jump-spec =
     tie.close
     (tie.spec
     (λ c κs. search needs)
-    (λ c κs. sound-block (c .before .before .before .before .pre))
-    (λ c. let t = c .before .before .before in rw (c .jump .ensures, ← t .before .driven .ensures, t .if1 .taken))
+    (λ c κs. block-of-sound (c .before .before .before .before .pre))
+    (λ c κs. search needs)
+    (λ c. let t = c .before .before .before .before in rw (c .with-block .ensures, c .before .jump .ensures, ← t .before .driven .ensures, t .if1 .taken))
     (λ c. rw (← c .before .driven .ensures, c .if1 .left)))

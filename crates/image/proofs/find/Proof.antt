@@ -1,14 +1,15 @@
--- Each arm has the part of what the walk meets. Where it is a part, it lies inside the image.
+-- Each arm has the part of what the walk meets. Where it is a part, it lies within the image.
 use mathlib.Core.Path.{refl, subst}
 use native.Mathlib.Omega.{arith}
 use borrow.Author.Needs.{needs}
-use Rattle.image.specs.declared.Found.the-variants.{At}
-use Rattle.image.specs.Asked.{Inside}
+use Rattle.image.specs.declared.Found.the-variants.{Part}
+use Rattle.image.specs.Asked.{Lies}
 use Rattle.image.proofs.find.Statement.{statement}
 use Rattle.image.proofs.find.Tie as tie
 
-inside : (c : tie.After-known-told) → Inside (c .before .before .before .before .before .args .image .now) (At (c .before .from .given .0 .0) (c .before .from .given .0 .1 .0))
-inside c = subst (Inside _) (c .before .from .given .1) (c .before .before .before .locate .ensures .inside)
+lies : (c : tie.After-known-told)
+    → Lies (c .before .before .before .before .before .args .image .now) (Part (c .before .from .given .0 .0) (c .before .from .given .0 .1 .0))
+lies c = subst (Lies _) (c .before .from .given .1) (c .before .before .before .locate .ensures .lies)
 
 pub find-spec : {M : Type 1} → statement M
 find-spec =
@@ -16,9 +17,9 @@ find-spec =
     (tie.spec
     (λ c κs. search needs)
     (λ c. search needs)
-    (λ c. inside c .0)
-    (λ c. inside c .0)
-    (λ c. inside c .1)
+    (λ c. lies c .0)
+    (λ c. lies c .0)
+    (λ c. lies c .1)
     (λ c. search needs)
     (λ c. search needs)
     (λ c. search needs)

@@ -3,7 +3,7 @@ use native.Mathlib.Omega.{arith}
 use borrow.Author.Needs.{needs}
 use borrow.Author.Tests.{eq-eqb, ne-eqb}
 use Rattle.image.specs.Load.{headAt}
-use Rattle.image.proofs.Loaded.{next-starts}
+use Rattle.image.proofs.Lengths.{next-starts}
 use Rattle.image.proofs.head_at.Statement.{statement}
 use Rattle.image.proofs.head_at.Tie as tie
 
@@ -27,7 +27,9 @@ head-at-spec =
     let two = tag .before in
     let byte = two .before in
     let row = byte .before .before in
-    rw (← row .before .before .pre .starts, ← tag .byte-at3 .ensures, eq-eqb _ _ (c .before .if1 .taken), two .two-of .ensures, byte .before .byte-at .ensures, byte .byte-at2 .ensures, row .row-at .ensures))
+    let met = eq-eqb _ _ (c .before .if1 .taken) in
+    rw (← row .before .before .pre .starts, ← tag .byte-at3 .ensures, met)
+    (rw (two .two-of .ensures, byte .before .byte-at .ensures, byte .byte-at2 .ensures, row .row-at .ensures)))
     (λ c.
     let tag = c .before in
     rw (← tag .before .before .before .before .before .before .pre .starts, ← tag .byte-at3 .ensures, ne-eqb _ _ (c .if1 .left))))

@@ -4,18 +4,20 @@ use Prim.Native.Nat.{_-_, _≤_}
 use native.Mathlib.Omega.{arith}
 use borrow.Author.Needs.{needs}
 use Rattle.integers.proofs.Machine.{result-told}
+use Rattle.objects.specs.Places.{SETTINGS}
 use Rattle.image.specs.Fields.{start}
 use Rattle.image.specs.Asked.{Starts}
 use Rattle.image.specs.Load.{valuesIn}
-use Rattle.image.proofs.Loaded.{next-starts, Loaded, loaded-more, loaded-all}
+use Rattle.image.proofs.Lengths.{next-starts}
+use Rattle.image.proofs.Loaded.{Loaded, loaded-next, settings-from-loaded}
 use Rattle.image.proofs.settings_in.Statement.{statement}
 use Rattle.image.proofs.settings_in.Tie as tie
 
 abbrev Inv-loop : tie.InvT-loop
-Inv-loop image settings₀ place₀ from₀ settings place from = (place ≤ 17) × (from ≡ start place) × Loaded image place settings
+Inv-loop image settings₀ place₀ from₀ settings place from = (place ≤ SETTINGS) × (from ≡ start place) × Loaded image place settings
 
 abbrev μ-loop : tie.MeasureT-loop
-μ-loop image settings₀ place₀ from₀ settings place from = 17 - place
+μ-loop image settings₀ place₀ from₀ settings place from = SETTINGS - place
 
 stands : (c : tie.In-loop Inv-loop μ-loop) → Starts (c .before .loop .from) (c .before .loop .place)
 stands c = search needs
@@ -37,8 +39,9 @@ settings-in-spec =
     (λ c. search needs)
     (λ c.
     let v = c .before in
-    (search needs, omega (arith, next-starts (stands (v .before))), rw (result-told (v .value-in .ok) (v .value-in .ensures)) (loaded-more (v .before .before .loop .inv .2) (omega arith))))
+    let read = loaded-next (v .before .before .loop .inv .2) (stands (v .before) .below) in
+    (search needs, omega (arith, next-starts (stands (v .before))), rw (result-told (v .value-in .ok) (v .value-in .ensures)) read))
     (λ c.
     let l = c .before .loop in
-    let end : l .place ≡ 17 = omega arith in
-    loaded-all (rw end at (l .inv .2))))
+    let end : l .place ≡ SETTINGS = omega arith in
+    settings-from-loaded (rw end at (l .inv .2))))

@@ -4,7 +4,7 @@ use native.Mathlib.Omega.{arith}
 use borrow.Author.Needs.{needs}
 use Rattle.integers.proofs.Machine.{told}
 use Rattle.image.specs.Load.{valueIn}
-use Rattle.image.proofs.Loaded.{next-starts}
+use Rattle.image.proofs.Lengths.{next-starts}
 use Rattle.image.proofs.value_in.Statement.{statement}
 use Rattle.image.proofs.value_in.Tie as tie
 

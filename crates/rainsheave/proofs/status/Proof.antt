@@ -1,13 +1,16 @@
--- The code and the definition make the same test, and what passes it tells its status word, a number that the cast keeps.
+-- What passes the test tells its status word, a number that the cast keeps.
+use mathlib.Core.Path.{ap, _∙_}
 use native.Mathlib.Omega.{arith}
 use borrow.Author.Needs.{needs}
-use Rattle.rainsheave.specs.Calls.{queryAnswer}
-use Rattle.rainsheave.proofs.Sound.{sound, number-told}
+use lib.IntN.{pos}
+use mir.Syntax.{w64}
+use mir.Facts.{toZ-pos}
+use Rattle.rainsheave.proofs.Queries.{told-is, not-told-is}
+use Rattle.rainsheave.proofs.Sound.{sound}
 use Rattle.rainsheave.proofs.status.Statement.{statement}
 use Rattle.rainsheave.proofs.status.Tie as tie
 
 pub status-spec : {M : Type 1} → statement M
-unfolding queryAnswer
 status-spec =
     tie.close
     (tie.spec
@@ -16,7 +19,5 @@ status-spec =
     (λ c. search needs)
     (λ c κs. search needs)
     (λ c κs. search needs)
-    (λ c.
-    let t = c .before .before in
-    record { result = rw (c .told .ensures, ← t .before .is-sound .ensures, t .if1 .taken, ← c .before .status .ensures) (number-told (omega arith)) })
-    (λ c. record { result = rw (← c .before .before .is-sound .ensures, c .before .if1 .left) (c .not-told .ensures) }))
+    (λ c. let t = c .before .before in record { result = told-is _ (t .before .is-sound .ensures) (t .if1 .taken) (c .told .ensures) (toZ-pos w64 (omega arith) ∙ ap pos (c .before .status .ensures)) })
+    (λ c. record { result = not-told-is _ _ (c .before .before .is-sound .ensures) (c .before .if1 .left) (c .not-told .ensures) }))

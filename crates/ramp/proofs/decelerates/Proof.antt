@@ -18,8 +18,8 @@ decelerates-spec =
     tie.close
     (tie.spec
     (λ c κs. search needs)
-    (λ c κs. let s = c .before .before in rw (toZ-ofZ (s .fits .t)) (omega (arith, s .pre .0)))
-    (λ c κs. let s = c .before .before .before in rw (toZ-ofZ (s .fits .p)) (omega (arith, s .pre .1)))
+    (λ c κs. let s = c .before .before in rw (toZ-ofZ (s .fits .t)) (omega arith))
+    (λ c κs. let s = c .before .before .before in rw (toZ-ofZ (s .fits .p)) (omega arith))
     (λ c. c .if1 .taken ∙ simp (sides (c .before) (c .if1 .taken)))
     (λ c.
     let o = c .before .before .before in

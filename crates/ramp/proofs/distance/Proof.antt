@@ -23,5 +23,5 @@ distance-spec =
     (λ c. let f = difference c in search needs)
     (λ c κs.
     let f = c .fits in
-    simp (toZ-ofZ (f .p), toZ-ofZ (f .g), toZ-ofZ (difference c)) (distance-most _ _ (c .pre .0) (c .pre .1)))
+    simp (toZ-ofZ (f .p), toZ-ofZ (f .g), toZ-ofZ (difference c)) (record { most = distance-most _ _ (c .pre .one) (c .pre .other) }))
     (λ c. let f = difference (c .before) in c .size .ensures ∙ search needs))

@@ -1,49 +1,64 @@
--- The ticks, the steps and the stop are the definition's, and so is the position, by the laws `before` and `after` of the closed formula. A count of 32 bits times a step fits.
+-- Each test, count and step is the definition's, and so is the position, by the laws of the closed formula on each way. A count of 32 bits times a step fits.
+use mathlib.Core.Bool.{Bool, true}
 use mathlib.Core.Path.{_≡_, sym, _∙_}
 use native.Mathlib.Omega.{arith}
 use borrow.Author.Needs.{needs}
-use mir.Syntax.{w64}
-use mir.Val.{toZ, ofZ}
+use borrow.Author.Tests.{not-true, not-false}
 use mir.Facts.{toZ-ofZ}
-use Rattle.ramp.specs.Ramp.{stop, stride, legTicks}
-use Rattle.ramp.proofs.Bounds.{stride-most, way-on}
-use Rattle.ramp.proofs.Travel.{before, after}
-use Rattle.integers.proofs.Machine.{result-told}
-use Rattle.ramp.proofs.Bounds.{product-fits}
+use Rattle.integers.proofs.Machine.{told}
+use Rattle.ramp.specs.Ramp.{ramped, halts, ticksToZero}
+use Rattle.ramp.proofs.Bounds.{zero-inside, steps-fit}
+use Rattle.ramp.proofs.Formula.{at-once, straight, before-zero, after-zero}
+use Rattle.ramp.proofs.Travel as Travel
 use Rattle.ramp.proofs.jump.Statement.{statement}
 use Rattle.ramp.proofs.jump.Tie as tie
 
-ticks : (c : tie.After-leg-ticks) → let a = c .before .args in c .leg-ticks .result ≡ legTicks (a .ramp) (a .t) (a .p)
-ticks c = c .leg-ticks .ensures ∙ search needs
+module _ (c : tie.After-halts) where
+  abbrev start : tie.Start
+  start = c .before .before .before .before
 
-goal : (c : tie.After-stop) → let a = c .before .before .args in toZ w64 (ofZ w64 (c .stop .result)) ≡ stop (a .ramp) (a .t) (a .p)
-goal c = result-told (c .stop .ok) (c .stop .ensures .0) ∙ search needs
+  slope : ramped (start .args .ramp) ≡ true
+  slope = sym (c .before .before .ramped .ensures) ∙ not-false _ (c .before .if2 .left)
 
-step : (c : tie.After-stride) → let a = c .before .before .before .before .args in c .stride .result ≡ stride (a .ramp) (a .t) (a .p)
-step c = c .stride .ensures ∙ search needs
+  halt : {b : Bool} → c .halts .result ≡ b → let a = start .args in halts (a .ramp) (a .t) (a .p) ≡ b
+  halt e = sym (c .halts .ensures ∙ search needs) ∙ e
 
-step2 : (c : tie.After-stride2) → let a = c .before .before .before .before .args in c .stride2 .result ≡ stride (a .ramp) (a .t) (stop (a .ramp) (a .t) (a .p))
-step2 c = c .stride2 .ensures ∙ simp (goal (c .before .before), toZ-ofZ (c .before .before .before .before .fits .t))
+ticks : (c : tie.After-ticks-to-zero) → let a = start (c .before .before) .args in c .ticks-to-zero .result ≡ ticksToZero (a .ramp) (a .t) (a .p)
+ticks c = c .ticks-to-zero .ensures ∙ search needs
 
 pub jump-spec : {M : Type 1} → statement M
 jump-spec =
     tie.close
     (tie.spec
-    (λ c κs. search needs)
-    (λ c κs. search needs)
-    (λ c κs. search needs)
-    (λ c. product-fits (omega arith) (omega (arith, step c, stride-most (c .before .before .before .before .pre))))
+    (λ c. search (needs, c .if1 .taken, Travel.start (c .before .pre)))
     (λ c κs. search needs)
     (λ c.
-    let g = c .before .before .before in
-    let s = g .before .before in
-    let k = ticks (g .before) in
-    result-told (c .moved .ok) (c .moved .ensures) ∙ simp (step (c .before), goal g, toZ-ofZ (s .fits .p)) (sym (before (s .pre) (s .args .n) (omega arith))))
+    let s = c .before .before .before in
+    toZ-ofZ (s .fits .t) ∙ sym (at-once _ _ _ (sym (c .before .ramped .ensures) ∙ not-true _ (c .if2 .taken)) (s .args .n) (omega arith)))
     (λ c κs. search needs)
-    (λ c. product-fits (omega arith) (omega (arith, step2 c, stride-most (way-on (c .before .before .before .before .pre)))))
+    (λ c κs. search needs)
+    (λ c. rw (c .stride .ensures) (steps-fit (start (c .before .before) .pre .ramp) _ _ (omega arith)))
     (λ c κs. search needs)
     (λ c.
-    let g = c .before .before .before in
-    let s = g .before .before in
-    let k = ticks (g .before) in
-    result-told (c .moved2 .ok) (c .moved2 .ensures) ∙ simp (step2 (c .before), goal g, k, toZ-ofZ (s .fits .t)) (sym (after (s .pre) (s .args .n) (omega arith)))))
+    let h = c .before .before .before in
+    let s = start h in
+    told (c .moved) ∙ simp (c .before .stride .ensures, toZ-ofZ (s .fits .t), toZ-ofZ (s .fits .p)) (sym (straight (s .pre) (slope h) (halt h (not-true _ (c .before .before .if3 .taken))) (s .args .n))))
+    (λ c κs. search needs)
+    (λ c κs. search needs)
+    (λ c. rw (c .stride2 .ensures) (steps-fit (start (c .before .before .before .before) .pre .ramp) _ _ (omega arith)))
+    (λ c κs. search (needs, zero-inside))
+    (λ c.
+    let k = c .before .before .before in
+    let h = k .before .before in
+    let s = start h in
+    let l = ticks k in
+    told (c .moved2) ∙ simp (c .before .stride2 .ensures, toZ-ofZ (s .fits .t), toZ-ofZ (s .fits .p)) (sym (before-zero (s .pre) (halt h (not-false _ (k .before .if3 .left))) (s .args .n) (omega arith))))
+    (λ c κs. search (needs, zero-inside))
+    (λ c. rw (c .stride3 .ensures) (steps-fit (start (c .before .before .before .before) .pre .ramp) _ _ (omega arith)))
+    (λ c κs. search (needs, zero-inside))
+    (λ c.
+    let k = c .before .before .before in
+    let h = k .before .before in
+    let s = start h in
+    let l = ticks k in
+    told (c .moved3) ∙ simp (c .before .stride3 .ensures, l, toZ-ofZ (s .fits .t)) (sym (after-zero (s .pre) (halt h (not-false _ (k .before .if3 .left))) (s .args .n) (omega arith)))))

@@ -18,6 +18,6 @@ moved-spec =
     tie.close
     (tie.spec
     (λ c κs. search needs)
-    (λ c κs. let h = c .before .before .pre in (omega (arith, way (c .before), distance-most _ _ (h .1) (h .0)), search needs))
+    (λ c κs. let h = c .before .before .pre in record { most = omega (arith, way (c .before), distance-most _ _ (h .one) (h .other)); from = search needs })
     (λ c. result-told (c .toward .ok) (c .toward .ensures) ∙ search (needs, lt-ltb _ _ (rw (way (c .before .before)) at (c .before .if1 .taken))))
     (λ c. search (needs, le-ltb _ _ (rw (way (c .before)) at (c .if1 .left)))))

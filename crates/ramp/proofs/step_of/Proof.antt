@@ -6,6 +6,7 @@ use Prim.Native.Nat.{max}
 use lib.IntN.{natAbs}
 use mir.Facts.{toZ-ofZ}
 use Rattle.integers.proofs.Linear.{ints, abs-nat}
+use Rattle.objects.specs.Table.{objects}
 use Rattle.ramp.specs.Ramp.{stepOf}
 use Rattle.ramp.proofs.step_of.Statement.{statement}
 use Rattle.ramp.proofs.step_of.Tie as tie
@@ -14,7 +15,7 @@ size-is : (c : tie.After-size) → c .size .result ≡ natAbs (c .before .args .
 size-is c = c .size .ensures ∙ search needs
 
 pub step-of-spec : {M : Type 1} → statement M
-unfolding stepOf
+unfolding stepOf objects
 step-of-spec =
     tie.close
     (tie.spec

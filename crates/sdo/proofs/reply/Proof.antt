@@ -1,7 +1,9 @@
 -- The code and the definition make the same choice, and what is put is the reply.
-use mathlib.Core.Path.{_∙_}
+use mathlib.Core.Path.{_≡_, _∙_}
 use borrow.Author.Needs.{needs}
-use Rattle.sdo.specs.Frames.{repliedIn}
+use lib.ListN.{length}
+use Rattle.coding.proofs.Bytes.{paste-front}
+use Rattle.sdo.specs.Frames.{FRAME, repliedIn}
 use Rattle.sdo.proofs.reply.Statement.{statement}
 use Rattle.sdo.proofs.reply.Tie as tie
 
@@ -12,10 +14,12 @@ reply-spec =
     (tie.spec
     (λ c κs. search needs)
     (λ c κs. search needs)
+    (λ c. search needs)
     (λ c κs. search needs)
     (λ c. search needs)
     (λ c.
-    let p = c .before .before in
-    let t = p .before .before .before in
-    p .put .ensures ∙ rw (p .before .reply-of .ensures, ← t .before .is-due .ensures, t .if1 .taken))
+    let r = c .before .before .before .before .before in
+    let t = r .before in
+    let long : length (r .reply-of .result) ≡ FRAME = search needs in
+    c .before .before .put .ensures ∙ paste-front _ (r .reply-of .result) FRAME long ∙ rw (r .reply-of .ensures, ← t .before .is-due .ensures, t .if1 .taken))
     (λ c. rw (← c .before .is-due .ensures, c .if1 .left)))

@@ -22,4 +22,4 @@ reply-of-spec =
     (λ c. cc)
     (λ c. cc)
     (λ c. cc)
-    (λ c. let t = c .before in clash (t .before .before .pre) (ap isDue (t .enum-told2 .given .1))))
+    (λ c. let t = c .before in clash (t .before .before .pre .due) (ap isDue (t .enum-told2 .given .1))))

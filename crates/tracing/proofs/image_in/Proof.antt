@@ -3,14 +3,15 @@ use Prim.Native.Nat.{_-_, _≤_}
 use mathlib.Core.Path.{_≡_}
 use lib.ListN.{length}
 use borrow.Author.Needs.{needs}
+use Rattle.image.specs.Fields.{IMAGE-LENGTH}
 use Rattle.tracing.proofs.image_in.Statement.{statement}
 use Rattle.tracing.proofs.image_in.Tie as tie
 
 abbrev Inv-loop : tie.InvT-loop
-Inv-loop room image₀ i₀ image i = (i ≤ 97) × (length image ≡ 97)
+Inv-loop room image₀ i₀ image i = (i ≤ IMAGE-LENGTH) × (length image ≡ IMAGE-LENGTH)
 
 abbrev μ-loop : tie.MeasureT-loop
-μ-loop room image₀ i₀ image i = 97 - i
+μ-loop room image₀ i₀ image i = IMAGE-LENGTH - i
 
 pub image-in-spec : {M : Type 1} → statement M
 image-in-spec =

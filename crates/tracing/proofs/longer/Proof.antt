@@ -1,16 +1,17 @@
 -- The loop stays within the image, and the bytes keep their length.
-use Prim.Native.Nat.{_-_, _≤_}
+use Prim.Native.Nat.{_+_, _-_, _≤_}
 use mathlib.Core.Path.{_≡_}
 use lib.ListN.{length}
 use borrow.Author.Needs.{needs}
+use Rattle.image.specs.Fields.{IMAGE-LENGTH}
 use Rattle.tracing.proofs.longer.Statement.{statement}
 use Rattle.tracing.proofs.longer.Tie as tie
 
 abbrev Inv-loop : tie.InvT-loop
-Inv-loop last image bytes₀ i₀ bytes i = (i ≤ 97) × (length bytes ≡ 98)
+Inv-loop last image bytes₀ i₀ bytes i = (i ≤ IMAGE-LENGTH) × (length bytes ≡ IMAGE-LENGTH + 1)
 
 abbrev μ-loop : tie.MeasureT-loop
-μ-loop last image bytes₀ i₀ bytes i = 97 - i
+μ-loop last image bytes₀ i₀ bytes i = IMAGE-LENGTH - i
 
 pub longer-spec : {M : Type 1} → statement M
 longer-spec =

@@ -1,0 +1,158 @@
+-- Where the numbers of the dictionary lie: places within the table, values within their rows' ranges, and what an accepted write has shown.
+use mathlib.Core.Bool.{Bool, true, false, not, cond}
+use mathlib.Core.Path.{_≡_, refl, sym, _∙_}
+use Prim.Native.Nat.{ℕ, _<_}
+use native.Mathlib.Omega.{arith}
+use borrow.Author.Tests.{eqb-true, eq-eqb, not-false}
+use lib.Dec.{T}
+use lib.IntN.{ℤ, pos, negsuc, natAbs}
+use lib.Signed.{ltZ, nonNeg}
+use mir.Syntax.{w16}
+use mir.Val.{Fits}
+use Rattle.integers.specs.Range.{Within}
+use Rattle.integers.proofs.Linear.{ints}
+use Rattle.integers.proofs.Cases.{by-test, apart}
+use Rattle.objects.specs.Places.{SETTINGS, SET-POINT, CONTROL-WORD, COMMAND, ROWS}
+use Rattle.objects.specs.Table.{objects, rowAt, InRange}
+use Rattle.objects.specs.Lookup.{placeOf, entryAt}
+use Rattle.objects.specs.declared.Place.{Place}
+use Rattle.objects.specs.declared.Place.the-variants.{At, Nowhere}
+use Rattle.objects.specs.declared.Entry.{Entry}
+use Rattle.objects.specs.declared.Entry.the-variants.{Value, Fixed, Missing}
+use Rattle.objects.proofs.Rules.{found-below, writable-below}
+use Rattle.block.specs.Block.{setting}
+use Rattle.block.proofs.Sound.{block-parts}
+use Rattle.block.proofs.Laws.{command-within}
+use Rattle.device.specs.States.{driven}
+use Rattle.device.specs.Queries.{deviceCommand}
+use Rattle.device.specs.Sound.{Sound}
+use Rattle.device.specs.declared.Device.{Device}
+use Rattle.device.proofs.Laws.{block-of-sound}
+use Rattle.dictionary.specs.Named.{Named, value, byte, nothing, entered, located, named}
+use Rattle.dictionary.specs.Values.{valueAt}
+use Rattle.dictionary.specs.Decide.{crosses, isLocked, verdictOn, readOf, writeOf}
+use Rattle.dictionary.specs.Asked.{Valued, Writing, Writes, Decided}
+use Rattle.dictionary.specs.declared.Decision.{Decision}
+use Rattle.dictionary.specs.declared.Decision.the-variants.{Read, Write, Abort}
+
+-- ---- places
+
+-- an object that is named stands in the table
+abbrev pub InTable : Named → Type 0
+InTable (value place) = place < ROWS
+InTable (byte number) = Unit {0}
+InTable (nothing code) = Unit {0}
+
+entered-in-table : (place : ℕ) (entry : Entry) → place < ROWS → InTable (entered place entry)
+entered-in-table place Value h = h
+entered-in-table place (Fixed number) h = tt
+entered-in-table place Missing h = tt
+
+pub named-in-table : (index sub : ℕ) → InTable (named index sub)
+unfolding named
+named-in-table index sub = by (placeOf index) refl
+  where
+    by : (p : Place) → placeOf index ≡ p → InTable (located p sub)
+    by (At place) e = entered-in-table place (entryAt (rowAt place .entries) sub) (found-below index place e)
+    by Nowhere e = tt
+
+-- ---- values
+
+-- the values of a sound device lie in their rows' ranges
+module _ {d : Device} (s : Sound d) where
+  pub setting-within : (place : ℕ) → place < SETTINGS → InRange place (setting (d .block) place)
+  setting-within = block-parts (block-of-sound s) .settings .ranged
+
+  pub setpoint-within : InRange SET-POINT (d .block .setpoint)
+  setpoint-within = block-parts (block-of-sound s) .setpoint
+
+pub device-command-within : (d : Device) → InRange COMMAND (deviceCommand d)
+unfolding deviceCommand objects
+device-command-within d =
+    by-test (InRange COMMAND) (driven (d .state))
+    (λ e. let w = command-within (d .block) in omega (arith, ints)) (λ e. omega (arith, ints))
+
+-- what is shown of an object's value is shown of what the code gives for it
+pub valued : {d : Device} {place : ℕ} {r v : ℤ} → valueAt d place ≡ v → (r ≡ v) × InRange place v → Valued d place r
+valued e h = record { value = h .0 ∙ sym e; range = rw (h .0) (h .1) }
+
+-- a value of the control word is a word
+pub control-word : {place : ℕ} {x : ℤ} → place ≡ CONTROL-WORD → InRange place x → T (nonNeg x) × Fits w16 (natAbs x)
+unfolding objects
+control-word {place} {x} e w = word x (rw e at w)
+  where
+    word : (x : ℤ) → Within (pos 0) (pos 65535) x → T (nonNeg x) × Fits w16 (natAbs x)
+    word (pos n) w = (tt, record { fits = omega (arith, ints) })
+    word (negsuc n) w = absurd (omega (arith, ints))
+
+-- ---- an accepted write
+
+-- what each test in turn has let through
+passed : (t : Bool) (code : ℕ) (rest : Decision) (place : ℕ) (x : ℤ) → cond t (Abort code) rest ≡ Write place x → (t ≡ false) × (rest ≡ Write place x)
+passed true code rest place x e = apart (cc)
+passed false code rest place x e = (refl, e)
+
+between : {low high x : ℤ} → ltZ high x ≡ false → ltZ x low ≡ false → Within low high x
+between {low} {high} {x} h l = omega (arith, ints)
+
+-- what no rule forbids
+pub record Accept (d : Device) (place size : ℕ) (x : ℤ) : Type 0 where
+  pub writable : rowAt place .writable ≡ true
+  pub sized : rowAt place .size ≡ size
+  pub range : InRange place x
+  pub uncrossed : crosses d place x ≡ false
+  pub unlocked : isLocked (rowAt place .lock) (d .state) ≡ false
+
+pub is-accepted : {d : Device} {place size : ℕ} {x : ℤ} → Accept d place size x → verdictOn d place size x ≡ Write place x
+unfolding verdictOn
+is-accepted {d} {place} {size} {x} a =
+    let w = a .range in
+    let high : ltZ (rowAt place .high) x ≡ false = omega (arith, ints) in
+    let low : ltZ x (rowAt place .low) ≡ false = omega (arith, ints) in
+    rw (a .writable, eq-eqb (rowAt place .size) size (a .sized), high, low, a .uncrossed, a .unlocked)
+
+-- and a write that was accepted is one that no rule forbids, of that value to that place
+pub accepted : (d : Device) (place size : ℕ) (x : ℤ) (k : ℕ) (v : ℤ) → verdictOn d place size x ≡ Write k v → Accept d place size x × (place ≡ k) × (x ≡ v)
+unfolding verdictOn
+accepted d place size x k v e =
+    let a = passed _ _ _ k v e in
+    let b = passed _ _ _ k v (a .1) in
+    let c = passed _ _ _ k v (b .1) in
+    let f = passed _ _ _ k v (c .1) in
+    let g = passed _ _ _ k v (f .1) in
+    let h = passed _ _ _ k v (g .1) in
+    let w : Write place x ≡ Write k v = h .1 in (
+      record {
+        writable = not-false _ (a .0);
+        sized = eqb-true (rowAt place .size) size (not-false _ (b .0));
+        range = between (c .0) (f .0);
+        uncrossed = g .0;
+        unlocked = h .0;
+      },
+      (cc),
+      (cc),
+    )
+
+-- what is written is a value for an object that can be written
+pub accept-writes : {d : Device} {place size : ℕ} {x : ℤ} → place < ROWS → Accept d place size x → Writing place x
+accept-writes {place} h a = record { writable = writable-below place h (a .writable); range = a .range }
+
+verdict-writes : (d : Device) (place size : ℕ) (x : ℤ) → place < ROWS → (v : Decision) → verdictOn d place size x ≡ v → Writes v
+verdict-writes d place size x h (Read n m) e = tt
+verdict-writes d place size x h (Write k v) e =
+    let a = accepted d place size x k v e in
+    rw (← a .1, ← a .2) (accept-writes h (a .0))
+verdict-writes d place size x h (Abort code) e = tt
+
+-- so is what a decision writes
+pub read-decided : (d : Device) (n : Named) → Decided (readOf d n)
+unfolding readOf
+read-decided d (value place) = record { writes = tt }
+read-decided d (byte number) = record { writes = tt }
+read-decided d (nothing code) = record { writes = tt }
+
+pub write-decided : (d : Device) (size number : ℕ) (n : Named) → InTable n → Decided (writeOf d size number n)
+unfolding writeOf
+write-decided d size number (value place) h = record { writes = verdict-writes d place size _ h _ refl }
+write-decided d size number (byte fixed) h = record { writes = tt }
+write-decided d size number (nothing code) h = record { writes = tt }

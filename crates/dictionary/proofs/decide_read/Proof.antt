@@ -1,0 +1,45 @@
+-- The arms are the definition's: what the index and the sub-index name is what was matched.
+use mathlib.Core.Path.{_≡_, sym, _∙_}
+use borrow.Author.Needs.{needs}
+use Rattle.objects.specs.Lookup.{placeOf}
+use Rattle.objects.specs.declared.Place.the-variants.{At, Nowhere}
+use Rattle.objects.proofs.Rules.{found-below}
+use Rattle.dictionary.specs.Aborts.{NO-OBJECT}
+use Rattle.dictionary.specs.Named.{nothing, entered, named}
+use Rattle.dictionary.specs.Decide.{readDecision, readOf}
+use Rattle.dictionary.proofs.decide_read.Statement.{statement}
+use Rattle.dictionary.proofs.decide_read.Tie as tie
+
+found : (c : tie.After-place) → placeOf (c .before .before .before .args .index) ≡ At (c .place .given .0 .0)
+found c = sym (c .before .before .place-of .ensures) ∙ c .place .given .1
+
+-- what is named where there is no such object, and where there is one: what stands at the entry
+nowhere : (c : tie.After-place-of) → c .place-of .result ≡ Nowhere → named (c .before .args .index) (c .before .args .sub) ≡ nothing NO-OBJECT
+unfolding named
+nowhere c e = rw (← c .place-of .ensures, e)
+
+entry : (c : tie.After-entry-at) → let p = c .before .before .before in let a = p .before .before .before .args in named (a .index) (a .sub) ≡ entered (p .place .given .0 .0) (c .entry-at .result)
+unfolding named
+entry c = rw (found (c .before .before .before), c .entry-at .ensures, c .before .row-at .ensures)
+
+pub decide-read-spec : {M : Type 1} → statement M
+unfolding readDecision readOf
+decide-read-spec =
+    tie.close
+    (tie.spec
+    (λ c κs. search needs)
+    (λ c. search needs)
+    (λ c. search needs)
+    (λ c κs. record { below = found-below _ _ (found (c .before)) })
+    (λ c κs. search needs)
+    (λ c. search needs)
+    (λ c κs.
+    let r = c .before .before .before in
+    record { placed = record { sound = r .before .before .before .before .before .pre; below = found-below _ _ (found (r .before .before)) }; looked = r .row-at .ensures })
+    (λ c. search needs)
+    (λ c. search needs)
+    (λ c. search needs)
+    (λ c. let p = c .before .before in rw (nowhere p (c .enum-told .given .1)))
+    (λ c. let e = c .before .before .before in rw (c .read-value .ensures, entry e, c .before .enum-told2 .given .1))
+    (λ c. rw (entry (c .before .before .before), c .before .byte .given .1))
+    (λ c. rw (entry (c .before .before), c .enum-told3 .given .1)))

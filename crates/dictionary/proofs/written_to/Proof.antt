@@ -1,0 +1,34 @@
+-- The code and the definition make the same choice, and what is written as a control word is a word.
+use mathlib.Core.Path.{_≡_, _∙_}
+use native.Mathlib.Omega.{arith}
+use borrow.Author.Needs.{needs}
+use borrow.Author.Tests.{lt-ltb, le-ltb, ne-eqb}
+use mir.Facts.{toZ-ofZ}
+use Rattle.dictionary.specs.Values.{writtenTo}
+use Rattle.dictionary.proofs.Laws.{control-word}
+use Rattle.dictionary.proofs.written_to.Statement.{statement}
+use Rattle.dictionary.proofs.written_to.Tie as tie
+
+pub written-to-spec : {M : Type 1} → statement M
+unfolding writtenTo
+written-to-spec =
+    tie.close
+    (tie.spec
+    (λ c κs. search needs)
+    (λ c κs. search needs)
+    (λ c.
+    let t = c .before .before in
+    c .with-block .ensures ∙ simp (c .before .with-setting .ensures, toZ-ofZ (t .before .before .fits .value), lt-ltb _ _ (t .if1 .taken)))
+    (λ c κs. search needs)
+    (λ c κs. search needs)
+    (λ c. let s = c .before .before .before in simp (toZ-ofZ (s .fits .value)) (control-word (c .match .keys2) (s .pre .range)))
+    (λ c κs. search needs)
+    (λ c.
+    let m = c .before .before in
+    c .with-block2 .ensures ∙ simp (c .before .with-setpoint .ensures, toZ-ofZ (m .before .before .before .fits .value), m .match .keys1))
+    (λ c.
+    let m = c .before in
+    c .control .ensures ∙ simp (toZ-ofZ (m .before .before .before .fits .value), m .match .keys2))
+    (λ c.
+    let none = c .match .rest in
+    simp (le-ltb _ _ (c .before .if1 .left), ne-eqb _ _ (none .0 .1), ne-eqb _ _ (none .1))))

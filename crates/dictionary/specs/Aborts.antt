@@ -1,0 +1,40 @@
+-- Document 01, "SDO": the codes of the aborts, in order.
+use Prim.Native.Nat.{ℕ}
+
+-- 1: another command byte
+abbrev pub UNKNOWN-COMMAND : ℕ
+UNKNOWN-COMMAND = 0x05040001
+
+-- 2: no such object
+abbrev pub NO-OBJECT : ℕ
+NO-OBJECT = 0x06020000
+
+-- 3: no such sub-index
+abbrev pub NO-SUB-INDEX : ℕ
+NO-SUB-INDEX = 0x06090011
+
+-- 4: write to a read-only entry
+abbrev pub READ-ONLY-ENTRY : ℕ
+READ-ONLY-ENTRY = 0x06010002
+
+-- 5: size differs from the type
+abbrev pub WRONG-SIZE : ℕ
+WRONG-SIZE = 0x06070010
+
+-- 6: too high, too low; of a choice both ways
+abbrev pub TOO-HIGH : ℕ
+TOO-HIGH = 0x06090031
+
+abbrev pub TOO-LOW : ℕ
+TOO-LOW = 0x06090032
+
+abbrev pub NO-SUCH-CHOICE : ℕ
+NO-SUCH-CHOICE = 0x06090030
+
+-- 7: upper limit below lower after this write
+abbrev pub LIMITS-CROSSED : ℕ
+LIMITS-CROSSED = 0x06090036
+
+-- 8: locked in this state
+abbrev pub LOCKED-NOW : ℕ
+LOCKED-NOW = 0x08000022

@@ -1,0 +1,73 @@
+-- Document 01, "SDO": what becomes of a read or a write, with the aborts from the second on in their order, and the device after it.
+use mathlib.Core.Bool.{Bool, false, not, _&&_}
+use Prim.Native.Nat.{ℕ}
+use lib.IntN.{ℤ}
+use Rattle.integers.specs.Words.{if_then_else_, _is_, _<?_}
+use Rattle.objects.specs.Places.{UPPER-LIMIT, LOWER-LIMIT}
+use Rattle.objects.specs.Table.{WHILE-ACTIVE, rowAt}
+use Rattle.coding.specs.Coding.{valueOf, numberOf}
+use Rattle.block.specs.Block.{setting}
+use Rattle.device.specs.States.{ACTIVE}
+use Rattle.device.specs.declared.Device.{Device}
+use Rattle.dictionary.specs.Aborts.{READ-ONLY-ENTRY, WRONG-SIZE, TOO-HIGH, TOO-LOW, NO-SUCH-CHOICE, LIMITS-CROSSED, LOCKED-NOW}
+use Rattle.dictionary.specs.Named.{Named, value, byte, nothing, named}
+use Rattle.dictionary.specs.Values.{valueAt, writtenTo}
+use Rattle.dictionary.specs.declared.Decision.{Decision}
+use Rattle.dictionary.specs.declared.Decision.the-variants.{Read, Write, Abort}
+
+-- ---- a read
+
+-- what becomes of a read: the bytes of the object's value
+unfoldable pub readOf : Device → Named → Decision
+readOf d (value place) = Read (rowAt place .size) (numberOf (rowAt place .size) (valueAt d place))
+readOf d (byte number) = Read 1 number
+readOf d (nothing code) = Abort code
+
+unfoldable pub readDecision : Device → ℕ → ℕ → Decision
+readDecision d index sub = readOf d (named index sub)
+
+-- ---- a write
+
+-- place 6: a choice has one code for both ways
+abbrev pub rangeCode : Bool → ℕ → ℕ
+rangeCode choice code = if choice then NO-SUCH-CHOICE else code
+
+-- place 7: the upper limit would be below the lower after this write
+unfoldable pub crosses : Device → ℕ → ℤ → Bool
+crosses d place x =
+    if place is UPPER-LIMIT then x <? setting (d .block) LOWER-LIMIT
+    else if place is LOWER-LIMIT then setting (d .block) UPPER-LIMIT <? x
+    else false
+
+-- place 8: an object with this lock may not be written in this state
+unfoldable pub isLocked : ℕ → ℕ → Bool
+isLocked lock state = lock is WHILE-ACTIVE && state is ACTIVE
+
+-- places 4 to 8: a write of so many bytes that stand for a value, to the object at a place
+unfoldable pub verdictOn : Device → ℕ → ℕ → ℤ → Decision
+verdictOn d place size x =
+    let row = rowAt place in
+    if not (row .writable) then Abort READ-ONLY-ENTRY
+    else if not (row .size is size) then Abort WRONG-SIZE
+    else if row .high <? x then Abort (rangeCode (row .choice) TOO-HIGH)
+    else if x <? row .low then Abort (rangeCode (row .choice) TOO-LOW)
+    else if crosses d place x then Abort LIMITS-CROSSED
+    else if isLocked (row .lock) (d .state) then Abort LOCKED-NOW
+    else Write place x
+
+-- what becomes of a write of so many bytes of a number; the object's type says what they stand for
+unfoldable pub writeOf : Device → ℕ → ℕ → Named → Decision
+writeOf d size number (value place) = verdictOn d place size (valueOf (rowAt place .size) (rowAt place .signed) number)
+writeOf d size number (byte fixed) = Abort READ-ONLY-ENTRY
+writeOf d size number (nothing code) = Abort code
+
+unfoldable pub writeDecision : Device → ℕ → ℕ → ℕ → ℕ → Decision
+writeDecision d index sub size number = writeOf d size number (named index sub)
+
+-- ---- carrying it out
+
+-- the device after a decision: an abort changes no state, and reading never does
+abbrev pub carriedOut : Decision → Device → Device
+carriedOut (Read size number) d = d
+carriedOut (Write place x) d = writtenTo place x d
+carriedOut (Abort code) d = d

@@ -1,0 +1,5 @@
+pub mod Named
+pub mod Values
+pub mod Aborts
+pub mod Decide
+pub mod Asked

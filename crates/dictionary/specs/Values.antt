@@ -1,0 +1,29 @@
+-- Document 01, "Objects": what the value of an object is, and what an accepted write of it does.
+use Prim.Native.Nat.{ℕ}
+use lib.IntN.{ℤ, pos, natAbs}
+use Rattle.integers.specs.Words.{if_then_else_, _is_, _below_}
+use Rattle.objects.specs.Places.{SETTINGS, SET-POINT, CONTROL-WORD, STATUS-WORD, ERROR-CODE, COMMAND}
+use Rattle.block.specs.Block.{setting, withSetting, withSetpoint}
+use Rattle.device.specs.Device.{withBlock}
+use Rattle.device.specs.Events.{controlled}
+use Rattle.device.specs.Queries.{statusOf, deviceCommand}
+use Rattle.device.specs.declared.Device.{Device}
+
+-- the value of the object at a place of the table; 0 past its end
+unfoldable pub valueAt : Device → ℕ → ℤ
+valueAt d place =
+    if place below SETTINGS then setting (d .block) place
+    else if place is SET-POINT then d .block .setpoint
+    else if place is CONTROL-WORD then pos (d .control)
+    else if place is STATUS-WORD then pos (statusOf d)
+    else if place is ERROR-CODE then pos (d .error)
+    else if place is COMMAND then deviceCommand d
+    else pos 0
+
+-- the device after an accepted write of a value: a control word may move the state; what cannot be written stays
+unfoldable pub writtenTo : ℕ → ℤ → Device → Device
+writtenTo place value d =
+    if place below SETTINGS then withBlock (withSetting place value (d .block)) d
+    else if place is SET-POINT then withBlock (withSetpoint value (d .block)) d
+    else if place is CONTROL-WORD then controlled (natAbs value) d
+    else d

@@ -1,0 +1,218 @@
+// The object dictionary: what an index and a sub-index name, what becomes of a read or a write of it, as a decision, and the carrying
+// out of that.
+ghost use mathlib.Core.Path.{_≡_};
+ghost use Rattle.dictionary.specs.Values.{valueAt, writtenTo};
+ghost use Rattle.dictionary.specs.Named as Named;
+ghost use Rattle.dictionary.specs.Decide.{isLocked, rangeCode, readOf, readDecision, writeOf, writeDecision, carriedOut};
+ghost use Rattle.dictionary.specs.Decide as Decide;
+ghost use Rattle.dictionary.specs.Asked.{Placed, Other, Looked, Valued, Writing, Decided};
+ghost use Rattle.device.specs.Sound.{Sound};
+use device::ACTIVE;
+use device::Device;
+use objects::CONTROL_WORD;
+use objects::ERROR_CODE;
+use objects::Entry;
+use objects::LOWER_LIMIT;
+use objects::Place;
+use objects::Row;
+use objects::SET_POINT;
+use objects::SETTINGS;
+use objects::STATUS_WORD;
+use objects::UPPER_LIMIT;
+use objects::WHILE_ACTIVE;
+
+// The aborts, in document 01's order.
+pub const UNKNOWN_COMMAND: u32 = 0x05040001;
+
+pub const NO_OBJECT: u32 = 0x06020000;
+
+pub const NO_SUB_INDEX: u32 = 0x06090011;
+
+pub const READ_ONLY_ENTRY: u32 = 0x06010002;
+
+pub const WRONG_SIZE: u32 = 0x06070010;
+
+pub const TOO_HIGH: u32 = 0x06090031;
+
+pub const TOO_LOW: u32 = 0x06090032;
+
+pub const NO_SUCH_CHOICE: u32 = 0x06090030;
+
+pub const LIMITS_CROSSED: u32 = 0x06090036;
+
+pub const LOCKED_NOW: u32 = 0x08000022;
+
+// What becomes of a request: so many bytes of a number read, a value to be written to a place, or an abort with its code.
+pub enum Decision {
+    Read { size: u8, number: u32 },
+    Write { place: usize, value: i64 },
+    Abort(u32),
+}
+
+// ---- values
+
+// The value of an object that is no stored setting.
+fn other_value(device: Device, place: usize) -> i64
+    requires { ⌜ Other device place ⌝ }
+    ensures { λ r. ⌜ Valued device place r ⌝ }
+{
+    match place {
+        SET_POINT => {
+            let block = device.block;
+            block.setpoint
+        }
+        CONTROL_WORD => device.control as i64,
+        STATUS_WORD => device::status(device) as i64,
+        ERROR_CODE => device.error as i64,
+        _ => device::command(device),
+    }
+}
+
+// The value of the object at a place.
+fn value_at(device: Device, place: usize) -> i64
+    requires { ⌜ Placed device place ⌝ }
+    ensures { λ r. ⌜ Valued device place r ⌝ }
+{
+    if place < SETTINGS {
+        let block = device.block;
+        block::setting(block, place)
+    } else {
+        other_value(device, place)
+    }
+}
+
+// ---- the decision on a read
+
+// The bytes of an object's value.
+fn read_value(device: Device, place: usize, row: Row) -> Decision
+    requires { ⌜ Looked device place row ⌝ }
+    ensures { λ r. ⌜ r ≡ readOf device (Named.value place) ⌝ }
+{
+    let size = row.size;
+    let number = coding::number_of(size, value_at(device, place));
+    Decision::Read { size, number }
+}
+
+// What becomes of a read of an index and a sub-index. The row is looked up once and handed on.
+pub fn decide_read(device: Device, index: u16, sub: u8) -> Decision
+    requires { ⌜ Sound device ⌝ }
+    ensures { λ r. ⌜ r ≡ readDecision device index sub ⌝ }
+{
+    match objects::place_of(index) {
+        Place::Nowhere => Decision::Abort(NO_OBJECT),
+        Place::At(place) => {
+            let row = objects::row_at(place);
+            match objects::entry_at(row.entries, sub) {
+                Entry::Value => read_value(device, place, row),
+                Entry::Fixed(byte) => Decision::Read {
+                    size: 1,
+                    number: byte as u32,
+                },
+                Entry::Missing => Decision::Abort(NO_SUB_INDEX),
+            }
+        }
+    }
+}
+
+// ---- the decision on a write
+
+// The upper limit would be below the lower after this write.
+fn crosses(device: Device, place: usize, value: i64) -> bool
+    ensures { λ r. ⌜ r ≡ Decide.crosses device place value ⌝ }
+{
+    let block = device.block;
+    match place {
+        UPPER_LIMIT => value < block::setting(block, LOWER_LIMIT),
+        LOWER_LIMIT => block::setting(block, UPPER_LIMIT) < value,
+        _ => false,
+    }
+}
+
+// An object with this lock may not be written in this state.
+fn is_locked(lock: u8, state: u8) -> bool
+    ensures { λ r. ⌜ r ≡ isLocked lock state ⌝ }
+{
+    lock == WHILE_ACTIVE && state == ACTIVE
+}
+
+// A choice among numbered kinds has one code for both ways out of its range.
+fn range_code(choice: bool, code: u32) -> u32
+    ensures { λ r. ⌜ r ≡ rangeCode choice code ⌝ }
+{
+    if choice { NO_SUCH_CHOICE } else { code }
+}
+
+// The aborts of a write of so many bytes of a number, from the fourth on.
+fn write_value(device: Device, place: usize, row: Row, size: u8, number: u32) -> Decision
+    requires { ⌜ Looked device place row ⌝ }
+    ensures { λ r. ⌜ r ≡ writeOf device size number (Named.value place) ⌝ }
+{
+    if !row.writable {
+        return Decision::Abort(READ_ONLY_ENTRY);
+    }
+    if row.size != size {
+        return Decision::Abort(WRONG_SIZE);
+    }
+    let value = coding::value_of(row.size, row.signed, number);
+    if row.high < value {
+        return Decision::Abort(range_code(row.choice, TOO_HIGH));
+    }
+    if value < row.low {
+        return Decision::Abort(range_code(row.choice, TOO_LOW));
+    }
+    if crosses(device, place, value) {
+        return Decision::Abort(LIMITS_CROSSED);
+    }
+    if is_locked(row.lock, device.state) {
+        return Decision::Abort(LOCKED_NOW);
+    }
+    Decision::Write { place, value }
+}
+
+// What becomes of a write to an index and a sub-index. The row is looked up once and handed on.
+pub fn decide_write(device: Device, index: u16, sub: u8, size: u8, number: u32) -> Decision
+    requires { ⌜ Sound device ⌝ }
+    ensures { λ r. ⌜ r ≡ writeDecision device index sub size number ⌝ }
+{
+    match objects::place_of(index) {
+        Place::Nowhere => Decision::Abort(NO_OBJECT),
+        Place::At(place) => {
+            let row = objects::row_at(place);
+            match objects::entry_at(row.entries, sub) {
+                Entry::Value => write_value(device, place, row, size, number),
+                Entry::Fixed(_) => Decision::Abort(READ_ONLY_ENTRY),
+                Entry::Missing => Decision::Abort(NO_SUB_INDEX),
+            }
+        }
+    }
+}
+
+// ---- carrying it out
+
+// An accepted write.
+fn written_to(device: Device, place: usize, value: i64) -> Device
+    requires { ⌜ Writing place value ⌝ }
+    ensures { λ r. ⌜ r ≡ writtenTo place value device ⌝ }
+{
+    let block = device.block;
+    if place < SETTINGS {
+        return device::with_block(device, block::with_setting(block, place, value));
+    }
+    match place {
+        SET_POINT => device::with_block(device, block::with_setpoint(block, value)),
+        CONTROL_WORD => device::control(device, value as u16),
+        _ => device,
+    }
+}
+
+// The device after a decision: only a write changes it.
+pub fn carry_out(device: Device, decision: Decision) -> Device
+    requires { ⌜ Decided decision ⌝ }
+    ensures { λ r. ⌜ r ≡ carriedOut decision device ⌝ }
+{
+    match decision {
+        Decision::Read { size: _, number: _ } => device,
+        Decision::Write { place, value } => written_to(device, place, value),
+        Decision::Abort(_) => device,
+    }
+}
