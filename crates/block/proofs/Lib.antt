@@ -2,4 +2,3 @@ pub mod Stored
 pub mod Sound
 pub mod Laws
 pub mod Travel
-pub mod Examples

@@ -1,23 +1,19 @@
 -- Control words, faults, ticks and jumps change no setting and no set point. So whenever a device is back in a state, its target is what it was: no change of state can add a correction again.
-use mathlib.Core.Path.{_≡_, refl, sym, _∙_}
+use mathlib.Core.Path.{_≡_, refl, _∙_}
 use Prim.Native.Nat.{ℕ}
 use lib.Dec.{eqb}
 use Rattle.integers.proofs.Cases.{by-test}
 use Rattle.block.specs.declared.Block.{Block}
 use Rattle.block.specs.Travel.{tickBlock, jumpBlock}
 use Rattle.block.proofs.Laws.{target-depends}
-use Rattle.device.specs.States.{ACTIVE, HOLD, FAULT, nextState, driven}
+use Rattle.device.specs.States.{FAULT, nextState, driven}
 use Rattle.device.specs.Device.{isActive}
 use Rattle.device.specs.Events.{blockIn, entering, controlled, reported, faulted, tickDevice, jumpDevice}
 use Rattle.device.specs.Queries.{deviceTarget}
+use Rattle.device.specs.Kept.{SameSettings}
 use Rattle.device.specs.declared.Device.{Device}
 
--- two devices with the same settings and set point
-pub record SameSettings (d e : Device) : Type 0 where
-  pub settings : d .block .settings ≡ e .block .settings
-  pub setpoint : d .block .setpoint ≡ e .block .setpoint
-
-same : {d : Device} → SameSettings d d
+pub same : {d : Device} → SameSettings d d
 same = record { settings = refl; setpoint = refl }
 
 pub then-same : {d e f : Device} → SameSettings d e → SameSettings e f → SameSettings d f
@@ -55,8 +51,3 @@ jump-keeps n d = by-test (λ e. SameSettings e d) (driven (d .state)) (λ e. rec
 pub device-target-depends : {d e : Device} → SameSettings d e → d .state ≡ e .state → deviceTarget d ≡ deviceTarget e
 unfolding deviceTarget
 device-target-depends {d} {e} s h = rw h (target-depends (isActive e) (d .block) (e .block) (s .settings) (s .setpoint))
-
--- from ACTIVE by HOLD back to ACTIVE, by whatever words and with whatever ticks and faults between: the target is the same
-pub active-hold-active : (leave back : ℕ) (d : Device) → d .state ≡ ACTIVE → controlled leave d .state ≡ HOLD → controlled back (controlled leave d) .state ≡ ACTIVE → deviceTarget (controlled back (controlled leave d)) ≡ deviceTarget d
-active-hold-active leave back d a h b =
-    device-target-depends (then-same (controlled-keeps back (controlled leave d)) (controlled-keeps leave d)) (b ∙ sym a)

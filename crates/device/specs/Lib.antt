@@ -3,4 +3,5 @@ pub mod Device
 pub mod Events
 pub mod Queries
 pub mod Sound
+pub mod Kept
 pub mod Demand

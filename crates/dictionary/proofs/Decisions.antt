@@ -5,9 +5,8 @@ use Prim.Native.Nat.{ℕ, _<_, _%_}
 use lib.IntN.{ℤ}
 use Rattle.integers.proofs.Cases.{apart}
 use Rattle.objects.specs.Places.{WRITABLE}
-use Rattle.objects.specs.Table.{rowAt}
 use Rattle.objects.proofs.Rules.{writable-below}
-use Rattle.coding.specs.Coding.{span, valueOf}
+use Rattle.coding.specs.Coding.{span}
 use Rattle.coding.proofs.Laws.{back-and-there}
 use Rattle.device.specs.Sound.{Sound}
 use Rattle.device.specs.declared.Device.{Device}
@@ -16,15 +15,9 @@ use Rattle.dictionary.specs.Values.{valueAt, writtenTo}
 use Rattle.dictionary.specs.Decide.{verdictOn, readOf, readDecision, writeOf, writeDecision, carriedOut}
 use Rattle.dictionary.specs.declared.Decision.{Decision}
 use Rattle.dictionary.specs.declared.Decision.the-variants.{Read, Write, Abort}
-use Rattle.dictionary.proofs.Laws.{InTable, named-in-table, Accept, accepted}
+use Rattle.dictionary.specs.Accept.{Origin}
+use Rattle.dictionary.proofs.Laws.{InTable, named-in-table, accepted}
 use Rattle.dictionary.proofs.Written.{written-is-read, others-are-kept, written-sound}
-
--- where a write that was decided comes from
-pub record Origin (d : Device) (index sub size number place : ℕ) (x : ℤ) : Type 0 where
-  pub found : named index sub ≡ value place
-  pub below : place < WRITABLE
-  pub stands : x ≡ valueOf (rowAt place .size) (rowAt place .signed) number
-  pub accept : Accept d place size x
 
 -- a read is never decided to be a write
 read-of-writes-nothing : (d : Device) (n : Named) (place : ℕ) (x : ℤ) → readOf d n ≢ Write place x

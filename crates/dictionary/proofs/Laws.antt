@@ -30,8 +30,9 @@ use Rattle.device.specs.declared.Device.{Device}
 use Rattle.device.proofs.Laws.{block-of-sound}
 use Rattle.dictionary.specs.Named.{Named, value, byte, nothing, entered, located, named}
 use Rattle.dictionary.specs.Values.{valueAt}
-use Rattle.dictionary.specs.Decide.{crosses, isLocked, verdictOn, readOf, writeOf}
+use Rattle.dictionary.specs.Decide.{verdictOn, readOf, writeOf}
 use Rattle.dictionary.specs.Asked.{Valued, Writing, Writes, Decided}
+use Rattle.dictionary.specs.Accept.{Accept}
 use Rattle.dictionary.specs.declared.Decision.{Decision}
 use Rattle.dictionary.specs.declared.Decision.the-variants.{Read, Write, Abort}
 
@@ -95,14 +96,7 @@ passed false code rest place x e = (refl, e)
 between : {low high x : ℤ} → ltZ high x ≡ false → ltZ x low ≡ false → Within low high x
 between {low} {high} {x} h l = omega (arith, ints)
 
--- what no rule forbids
-pub record Accept (d : Device) (place size : ℕ) (x : ℤ) : Type 0 where
-  pub writable : rowAt place .writable ≡ true
-  pub sized : rowAt place .size ≡ size
-  pub range : InRange place x
-  pub uncrossed : crosses d place x ≡ false
-  pub unlocked : isLocked (rowAt place .lock) (d .state) ≡ false
-
+-- what no rule forbids is decided to be written
 pub is-accepted : {d : Device} {place size : ℕ} {x : ℤ} → Accept d place size x → verdictOn d place size x ≡ Write place x
 unfolding verdictOn
 is-accepted {d} {place} {size} {x} a =

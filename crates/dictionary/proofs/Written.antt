@@ -25,7 +25,7 @@ use Rattle.device.proofs.Laws.{block-of-sound, with-block-sound, position-rests
 use Rattle.device.proofs.Kept.{controlled-keeps}
 use Rattle.dictionary.specs.Values.{valueAt, writtenTo}
 use Rattle.dictionary.specs.Decide.{crosses}
-use Rattle.dictionary.proofs.Laws.{Accept}
+use Rattle.dictionary.specs.Accept.{Accept}
 
 -- ---- where a write goes
 
@@ -84,6 +84,20 @@ others-are-kept d place k x h m n =
     (λ e. let w = controlled-keeps (natAbs x) d in
     rw (to-control place x d e)
     (same-value (controlled (natAbs x) d) d k m (λ q. ap (λ (l : List ℤ). at l k) (w .settings)) (λ q. w .setpoint) (λ q. absurd (n (q ∙ sym e)))))
+
+-- ---- what else stays: all but the block's setting or set point, unless a control word was written
+
+pub record Aside (d e : Device) : Type 0 where
+  pub state : e .state ≡ d .state
+  pub error : e .error ≡ d .error
+  pub position : e .block .position ≡ d .block .position
+
+pub written-aside : (d : Device) (place : ℕ) (x : ℤ) → place < WRITABLE → place ≢ CONTROL-WORD → Aside d (writtenTo place x d)
+written-aside d place x h n =
+    by-target place h
+    (λ l. rw (to-setting place x d l) (record { state = refl; error = refl; position = refl }))
+    (λ e. rw (to-setpoint place x d e) (record { state = refl; error = refl; position = refl }))
+    (λ e. absurd (n e))
 
 -- ---- a sound device stays sound
 

@@ -3,3 +3,4 @@ pub mod Values
 pub mod Aborts
 pub mod Decide
 pub mod Asked
+pub mod Accept

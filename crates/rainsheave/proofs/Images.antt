@@ -47,7 +47,7 @@ store-leaves-image {d} s room h =
 -- ---- a load by its cases
 
 -- what holds of a refusal, which hands the device back, and of a load done holds of the answer
-by-load : (P : Change → Type 0) (d : Device) (image : List ℕ) → ((number : ℕ) → P (change (Refused number) d)) → (isFull image ≡ true → soundSettings (settingsIn image) ≡ true → P (change Done (loaded (settingsIn image) d))) → P (loadAnswer d image)
+pub by-load : (P : Change → Type 0) (d : Device) (image : List ℕ) → ((number : ℕ) → P (change (Refused number) d)) → (isFull image ≡ true → soundSettings (settingsIn image) ≡ true → P (change Done (loaded (settingsIn image) d))) → P (loadAnswer d image)
 unfolding loadAnswer
 by-load P d image refused done =
     by-test P (soundDevice d)

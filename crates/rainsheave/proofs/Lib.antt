@@ -1,5 +1,4 @@
 pub mod Sound
 pub mod Queries
-pub mod Determined
 pub mod Promises
 pub mod Images

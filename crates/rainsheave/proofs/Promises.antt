@@ -38,7 +38,7 @@ use Rattle.rainsheave.specs.declared.Change.{Change}
 -- ---- a refusal leaves everything as it was
 
 -- what holds of a refusal, which hands the device back, and of what is served holds of the answer
-by-sdo : (P : Answer → Type 0) (d : Device) (request : List ℕ) (room : ℕ) → ((number : ℕ) → P (answer (Refused number) d)) → P (served d (requestOf request)) → P (sdoAnswer d request room)
+pub by-sdo : (P : Answer → Type 0) (d : Device) (request : List ℕ) (room : ℕ) → ((number : ℕ) → P (answer (Refused number) d)) → P (served d (requestOf request)) → P (sdoAnswer d request room)
 unfolding sdoAnswer
 by-sdo P d request room refused done =
     by-test P (not (soundDevice d)) (λ e. refused UNSOUND)

@@ -5,4 +5,3 @@ pub mod Bounds
 pub mod Formula
 pub mod Travel
 pub mod Demand
-pub mod Examples

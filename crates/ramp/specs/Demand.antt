@@ -4,7 +4,7 @@ use mathlib.Core.Logic.{_≢_}
 use mathlib.Core.Path.{_≡_}
 use Prim.Native.Nat.{ℕ, suc, _+_, _≤_, _<_}
 use lib.IntN.{ℤ}
-use Rattle.ramp.specs.Ramp.{ramped, opposite, ticked, ticksToGo, positionAfter, Inside, Way}
+use Rattle.ramp.specs.Ramp.{ramped, opposite, ticked, ticksToGo, positionAfter, Inside}
 use Rattle.ramp.specs.declared.Ramp.{Ramp}
 
 -- no way takes more ticks
@@ -26,11 +26,3 @@ pub record Demand3 (r : Ramp) (t p : ℤ) : Type 0 where
   pub stays : (n : ℕ) → Inside (positionAfter r t p n)
   -- on a ramp no tick crosses zero
   pub uncrossed : ramped r ≡ true → (n : ℕ) → opposite (ticked r t p n) (ticked r t p (suc n)) ≡ false
-
--- a sound way that takes all of its ticks
-pub record Longest : Type 0 where
-  pub ramp : Ramp
-  pub target : ℤ
-  pub position : ℤ
-  pub way : Way ramp target position
-  pub ticks : ticksToGo ramp target position ≡ LATEST-TICK

@@ -8,27 +8,18 @@ use Rattle.objects.specs.Places.{WRITABLE}
 use Rattle.coding.specs.Coding.{span}
 use Rattle.device.specs.Sound.{Sound}
 use Rattle.device.specs.declared.Device.{Device}
-use Rattle.dictionary.specs.Values.{valueAt, writtenTo}
+use Rattle.dictionary.specs.Values.{valueAt}
 use Rattle.dictionary.specs.Decide.{carriedOut}
 use Rattle.dictionary.specs.declared.Decision.{Decision}
 use Rattle.dictionary.specs.declared.Decision.the-variants.{Read as Reading, Write, Abort as Aborting}
 use Rattle.dictionary.proofs.Decisions as Decisions
-use Rattle.dictionary.proofs.Decisions.{Origin}
 use Rattle.sdo.specs.Frames.{asksOf}
+use Rattle.sdo.specs.Acknowledged.{Acknowledged}
 use Rattle.sdo.specs.Serve.{decisionBy, decisionOn, outcomeOf, served}
 use Rattle.sdo.specs.declared.Request.{Request}
 use Rattle.sdo.specs.declared.Asks.{Asks}
 use Rattle.sdo.specs.declared.Asks.the-variants.{Reads, Writes, Unknown}
 use Rattle.sdo.specs.declared.Outcome.the-variants.{Read, Written, Abort}
-
--- an acknowledged write: what the request asks, and where the decision comes from
-pub record Acknowledged (d : Device) (q : Request) : Type 0 where
-  pub place : ℕ
-  pub size : ℕ
-  pub x : ℤ
-  pub asks : asksOf (q .command) ≡ Writes size
-  pub origin : Origin d (q .index) (q .sub) size (q .number) place x
-  pub device : served d q .device ≡ writtenTo place x d
 
 -- ---- all but an acknowledged write leaves the device as it was
 

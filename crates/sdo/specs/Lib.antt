@@ -1,3 +1,4 @@
 pub mod Frames
 pub mod Serve
 pub mod Asked
+pub mod Acknowledged

@@ -1,0 +1,8 @@
+-- What control words, faults, ticks and jumps leave as it is.
+use mathlib.Core.Path.{_≡_}
+use Rattle.device.specs.declared.Device.{Device}
+
+-- two devices with the same settings and set point
+pub record SameSettings (d e : Device) : Type 0 where
+  pub settings : d .block .settings ≡ e .block .settings
+  pub setpoint : d .block .setpoint ≡ e .block .setpoint

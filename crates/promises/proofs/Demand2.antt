@@ -1,0 +1,317 @@
+-- Demand 2. The bytes of a request name the object and stand for the value, by tests that are computed over the rows; what no rule forbids is decided to be written, and the dictionary's promises of that say the rest.
+use mathlib.Core.Bool.{Bool, true, false, not, _&&_}
+use mathlib.Core.List.{List, [], _∷_, _++_}
+use mathlib.Core.Logic.{_≢_}
+use mathlib.Core.Path.{_≡_, refl, sym, ap, _∙_}
+use Prim.Native.Nat.{ℕ, _+_, _*_, _-_, _%_, _/_, _≤_, _<_}
+use native.Mathlib.Omega.{arith}
+use borrow.Author.Tests.{le-ltb, eqb-true}
+use lib.Dec.{eqb, ltb}
+use lib.IntN.{ℤ, pos}
+use lib.ListN.{length, take, drop}
+use Rattle.integers.specs.Words.{each, _is_, _=?_}
+use Rattle.integers.proofs.Cases.{by-cases, by-less, clash}
+use Rattle.integers.proofs.Each.{each-at, and-split}
+use Rattle.objects.specs.Places.{SETTINGS, WRITABLE, ROWS, CONTROL-WORD, STATUS-WORD, ERROR-CODE, COMMAND}
+use Rattle.objects.specs.Table.{WHILE-ACTIVE, objects, rowAt}
+use Rattle.objects.specs.Lookup.{placeFrom, placeOf, entryAt}
+use Rattle.objects.specs.declared.Entry.{Entry}
+use Rattle.objects.specs.declared.Entry.the-variants.{Value, Fixed, Missing}
+use Rattle.objects.proofs.Rules.{each-row-is-found, below-writable}
+use Rattle.coding.specs.Bytes.{byteAt, byteOf, twoOf, fourOf, fourBytes}
+use Rattle.coding.specs.Coding.{span, valueOf, numberOf}
+use Rattle.coding.proofs.Laws.{number-below, low-bytes, there-and-back}
+use Rattle.coding.proofs.Rows.{row-typed, row-held}
+use Rattle.device.specs.States.{DISABLED, HOLD, ACTIVE}
+use Rattle.device.specs.Events.{controlled}
+use Rattle.device.specs.Sound.{soundDevice, Sound}
+use Rattle.device.specs.Queries.{targetMet, statusOf}
+use Rattle.device.specs.Demand.{deviceTargetPosition}
+use Rattle.device.specs.declared.Device.{Device}
+use Rattle.dictionary.specs.Named.{Named, value, byte, nothing, named}
+use Rattle.dictionary.specs.Values.{valueAt, writtenTo}
+use Rattle.dictionary.specs.Decide.{isLocked, verdictOn, readOf, readDecision, writeOf, writeDecision, carriedOut}
+use Rattle.dictionary.specs.declared.Decision.the-variants.{Write}
+use Rattle.dictionary.specs.Accept.{Accept}
+use Rattle.dictionary.proofs.Laws.{InTable, named-in-table, is-accepted}
+use Rattle.dictionary.proofs.Written.{written-is-read, others-are-kept, written-aside, written-sound}
+use Rattle.block.specs.Block.{setting}
+use Rattle.image.specs.Fields.{tagOf, valueBytes}
+use Rattle.image.specs.Walk.{walk, partOf}
+use Rattle.image.proofs.Walks.{stored-value-found}
+use Rattle.image.proofs.Lengths.{sized}
+use Rattle.image.proofs.LowBytes.{number-from-bytes}
+use Rattle.sdo.specs.Frames.{FRAME, requestOf, asksOf, readReply, frameOf, repliedIn}
+use Rattle.sdo.specs.Serve.{answer, decisionOn, outcomeOf, served}
+use Rattle.sdo.specs.declared.Asks.{Asks}
+use Rattle.sdo.specs.declared.Asks.the-variants.{Reads, Writes, Unknown}
+use Rattle.sdo.specs.declared.Request.{Request}
+use Rattle.sdo.specs.declared.Answer.{Answer}
+use Rattle.sdo.specs.declared.Outcome.{Outcome}
+use Rattle.sdo.specs.declared.Outcome.the-variants.{Read, Written}
+use Rattle.rainsheave.specs.Calls.{change, isClientAbort, sdoAnswer, sdoRoom, controlAnswer, queryAnswer, storeRoom, loaded, loadAnswer}
+use Rattle.rainsheave.specs.declared.Report.the-variants.{Done}
+use Rattle.rainsheave.proofs.Promises.{sdo-unchanged, control-is-a-write}
+use Rattle.rainsheave.proofs.Images.{round-trip, store-leaves-image}
+use Rattle.promises.specs.Calls.{sdo, status, asked, told, after}
+use Rattle.promises.specs.Demand2.{Data, list, frame, writes, tells, valueSub, valueData, writing, reading, acknowledgement, telling, isLockable, Allowed, written, Kept, statusIn, Demand2}
+
+-- ---- rules of the rows, each by a test that is computed
+
+abbrev isWrites : Asks → ℕ → Bool
+isWrites Reads n = false
+isWrites (Writes size) n = size is n
+isWrites Unknown n = false
+
+is-writes : (a : Asks) (n : ℕ) → isWrites a n ≡ true → a ≡ Writes n
+is-writes Reads n e = clash e refl
+is-writes (Writes size) n e = ap Writes (eqb-true size n e)
+is-writes Unknown n e = clash e refl
+
+abbrev isValue : Entry → Bool
+isValue Value = true
+isValue (Fixed n) = false
+isValue Missing = false
+
+is-value : (e : Entry) → isValue e ≡ true → e ≡ Value
+is-value Value h = refl
+is-value (Fixed n) h = clash h refl
+is-value Missing h = clash h refl
+
+module _ (place : ℕ) (h : place < ROWS) where
+  -- the command byte asks for a write of the row's size, and is no client abort
+  asks : asksOf (writes (rowAt place .size)) ≡ Writes (rowAt place .size)
+  unfolding each objects asksOf
+  asks = is-writes _ _ (each-at ROWS (λ k. isWrites (asksOf (writes (rowAt k .size))) (rowAt k .size)) place refl h)
+
+  no-abort : isClientAbort (writes (rowAt place .size)) ≡ false
+  unfolding each objects
+  no-abort = by (isClientAbort (writes (rowAt place .size))) (each-at ROWS (λ k. not (isClientAbort (writes (rowAt k .size)))) place refl h)
+    where
+      by : (t : Bool) → not t ≡ true → t ≡ false
+      by true e = sym e
+      by false e = refl
+
+  -- index and sub-index name the object's value
+  entry : entryAt (rowAt place .entries) (valueSub place) ≡ Value
+  unfolding each objects entryAt
+  entry = is-value _ (each-at ROWS (λ k. isValue (entryAt (rowAt k .entries) (valueSub k))) place refl h)
+
+  is-named : named (rowAt place .index) (valueSub place) ≡ value place
+  unfolding named
+  is-named = rw (each-row-is-found place h, entry)
+
+  -- the lock is on the objects that the paper names
+  lock : (rowAt place .lock is WHILE-ACTIVE) ≡ isLockable (rowAt place .index)
+  unfolding each objects
+  lock = by (rowAt place .lock is WHILE-ACTIVE) (isLockable (rowAt place .index)) (each-at ROWS (λ k. same (rowAt k .lock is WHILE-ACTIVE) (isLockable (rowAt k .index))) place refl h)
+    where
+      same : Bool → Bool → Bool
+      same true t = t
+      same false t = not t
+
+      by : (a b : Bool) → same a b ≡ true → a ≡ b
+      by true b e = sym e
+      by false true e = e
+      by false false e = refl
+
+-- ---- requests
+
+-- an index is made of its two bytes
+index-back : (index : ℕ) → twoOf (index % 256) (index / 256) ≡ index
+index-back index = omega arith
+
+-- the request in a frame
+abbrev request : ℕ → ℕ → ℕ → Data → Request
+request command index sub b = record { command = command; sub = sub; index = index; number = fourOf (b .one) (b .two) (b .three) (b .four) }
+
+frame-read : (command index sub : ℕ) (b : Data) → requestOf (frame command index sub (list b)) ≡ request command index sub b
+frame-read command index sub b = rw (index-back index)
+
+-- what a sound device with room enough answers to a frame that is no client abort
+frame-answered : {d : Device} → Sound d → (command index sub : ℕ) (b : Data) (room : ℕ) → isClientAbort command ≡ false → FRAME ≤ room → sdoAnswer d (frame command index sub (list b)) room ≡ served d (request command index sub b)
+unfolding sdoAnswer
+frame-answered {d} s command index sub b room c h = rw (s .sound, le-ltb room FRAME h, c) (ap (served d) (frame-read command index sub b))
+
+-- and the room then
+frame-replied : {d : Device} → Sound d → (command index sub : ℕ) (b : Data) (room : List ℕ) → isClientAbort command ≡ false → FRAME ≤ length room → sdoRoom d (frame command index sub (list b)) room ≡ repliedIn (served d (request command index sub b) .outcome) (request command index sub b) room
+unfolding sdoRoom
+frame-replied s command index sub b room c h = rw (frame-answered s command index sub b (length room) c h, frame-read command index sub b)
+
+-- ---- a write that no rule forbids
+
+module _ {d : Device} {place : ℕ} {x : ℤ} {b : Data} (a : Allowed d place x b) where
+  in-table : place < ROWS
+  in-table = let w = a .writable in omega arith
+
+  accept : Accept d place (rowAt place .size) x
+  unfolding isLocked
+  accept =
+      record {
+        writable = below-writable place (a .writable);
+        sized = refl;
+        range = a .range;
+        uncrossed = a .uncrossed;
+        unlocked = rw (lock place in-table) (a .unlocked);
+      }
+
+  -- the data bytes stand for the value
+  stands : valueOf (rowAt place .size) (rowAt place .signed) (fourOf (b .one) (b .two) (b .three) (b .four)) ≡ x
+  stands =
+      let size = rowAt place .size in
+      let n = numberOf size x in
+      let low : fourOf (b .one) (b .two) (b .three) (b .four) % span size ≡ n =
+      number-from-bytes (sized place) n (b .one) (b .two) (b .three) (b .four) (number-below (row-held place in-table (a .range))) (a .stands) in
+      sym (low-bytes size (rowAt place .signed) _) ∙ rw low (there-and-back (row-typed place in-table (a .range)))
+
+  -- it is decided to be written
+  decided : decisionOn d (request (writes (rowAt place .size)) (rowAt place .index) (valueSub place) b) ≡ Write place x
+  unfolding decisionOn writeDecision writeOf
+  decided = rw (asks place in-table, is-named place in-table, stands) (is-accepted accept)
+
+  abbrev q : Request
+  q = request (writes (rowAt place .size)) (rowAt place .index) (valueSub place) b
+
+  write-served : served d q ≡ answer Written (writtenTo place x d)
+  unfolding served
+  write-served = rw decided
+
+  module _ (room : List ℕ) (h : FRAME ≤ length room) where
+    answered : sdoAnswer d (writing place (list b)) (length room) ≡ answer Written (writtenTo place x d)
+    answered = frame-answered (a .sound) _ _ _ b (length room) (no-abort place in-table) h ∙ write-served
+
+    replied : sdoRoom d (writing place (list b)) room ≡ acknowledgement place ++ drop FRAME room
+    unfolding repliedIn frameOf fourBytes
+    replied = frame-replied (a .sound) _ _ _ b room (no-abort place in-table) h ∙ rw write-served
+
+  after-sound : Sound (writtenTo place x d)
+  after-sound = written-sound (a .sound) place (rowAt place .size) x (a .writable) accept
+
+-- ---- reads
+
+-- the outcome of a read is the decision's, whatever the data bytes are
+read-served : (d : Device) (index sub : ℕ) (b : Data) → served d (request 0x40 index sub b) .outcome ≡ outcomeOf (readDecision d index sub)
+unfolding served decisionOn asksOf
+read-served d index sub b = refl
+
+read-replied : {d : Device} → Sound d → (index sub : ℕ) (b : Data) (r : List ℕ) → FRAME ≤ length r → sdoRoom d (reading index sub b) r ≡ repliedIn (outcomeOf (readDecision d index sub)) (request 0x40 index sub b) r
+read-replied {d} s index sub b r h = frame-replied s 0x40 index sub b r refl h ∙ rw (read-served d index sub b)
+
+-- two sound devices of which a read is decided alike answer it alike, also in too little room
+read-alike : {d e : Device} → Sound d → Sound e → (index sub : ℕ) (b : Data) → readDecision d index sub ≡ readDecision e index sub → (r : List ℕ) → sdoRoom d (reading index sub b) r ≡ sdoRoom e (reading index sub b) r
+unfolding sdoRoom sdoAnswer
+read-alike {d} {e} s t index sub b same r =
+    by-cases (ltb (length r) FRAME)
+    (λ h. rw (s .sound, t .sound, h))
+    (λ h. rw (s .sound, t .sound, h, frame-read 0x40 index sub b, read-served d index sub b, read-served e index sub b, same))
+
+error-value : (d e : Device) → d .error ≡ e .error → valueAt d ERROR-CODE ≡ valueAt e ERROR-CODE
+unfolding valueAt
+error-value d e h = ap pos h
+
+-- after a write that no rule forbids
+module _ {d : Device} {place : ℕ} {x : ℤ} {b : Data} (a : Allowed d place x b) where
+  read-back : (c : Data) (r : List ℕ) → FRAME ≤ length r → sdoRoom (writtenTo place x d) (reading (rowAt place .index) (valueSub place) c) r ≡ telling place x ++ drop FRAME r
+  unfolding repliedIn readDecision readOf readReply frameOf
+  read-back c r h =
+      read-replied (after-sound a) (rowAt place .index) (valueSub place) c r h
+      ∙ rw (is-named place (in-table a), written-is-read (a .sound) place x (a .writable) (a .range))
+
+  -- every other object but status word, command and, where 6040h was written, error code has its value
+  other-value : (k : ℕ) → k < ROWS → k ≢ place → k ≢ STATUS-WORD → k ≢ COMMAND → (place ≡ CONTROL-WORD → k ≢ ERROR-CODE) → valueAt (writtenTo place x d) k ≡ valueAt d k
+  other-value k h n o p c =
+      by-less k WRITABLE
+      (λ l. others-are-kept d place k x (a .writable) l n)
+      (λ l. let e : k ≡ ERROR-CODE = omega arith in rw e (error-value (writtenTo place x d) d (written-aside d place x (a .writable) (λ w. c w e) .error)))
+
+  other-decision : (n : Named) → InTable n → n ≢ value place → n ≢ value STATUS-WORD → n ≢ value COMMAND → (place ≡ CONTROL-WORD → n ≢ value ERROR-CODE) → readOf (writtenTo place x d) n ≡ readOf d n
+  unfolding readOf
+  other-decision (value k) h n o p c =
+      rw (other-value k h (λ e. n (ap value e)) (λ e. o (ap value e)) (λ e. p (ap value e)) (λ w e. c w (ap value e)))
+  other-decision (byte n) h _ _ _ _ = refl
+  other-decision (nothing code) h _ _ _ _ = refl
+
+  others : (index sub : ℕ) → named index sub ≢ value place → named index sub ≢ value STATUS-WORD → named index sub ≢ value COMMAND → (place ≡ CONTROL-WORD → named index sub ≢ value ERROR-CODE) → (e : Data) (r : List ℕ) → sdoRoom (writtenTo place x d) (reading index sub e) r ≡ sdoRoom d (reading index sub e) r
+  others index sub n o p c e r =
+      read-alike (after-sound a) (a .sound) index sub e (unfold readDecision in other-decision (named index sub) (named-in-table index sub) n o p c) r
+
+-- ---- a write, together
+
+write : (d : Device) (place : ℕ) (x : ℤ) (b : Data) (room : List ℕ) → Allowed d place x b → 8 ≤ length room → Kept d place x b room
+write d place x b room a h =
+    let e = answered a room h in
+    let device : written d place b room ≡ writtenTo place x d = ap (λ (r : Answer). r .device) e in
+    record {
+      acknowledged = replied a room h;
+      outcome = ap (λ (r : Answer). r .outcome) e;
+      read-back = λ c r k. rw device (read-back a c r k);
+      state = λ n. rw device (written-aside d place x (a .writable) n .state);
+      error = λ n. rw device (written-aside d place x (a .writable) n .error);
+      position = λ n. rw device (written-aside d place x (a .writable) n .position);
+      others = λ index sub n o p c e r. rw device (others a index sub n o p c e r);
+    }
+
+-- ---- the other promises
+
+control-written : (d : Device) (word : ℕ) (room : List ℕ) → Sound d → word < 65536 → 8 ≤ length room → controlAnswer d word ≡ change Done (after (sdo (0x2B ∷ 0x40 ∷ 0x60 ∷ 0x00 ∷ word % 256 ∷ word / 256 ∷ 0 ∷ 0 ∷ []) room) d)
+unfolding controlAnswer
+control-written d word room s w h =
+    let number : fourOf (word % 256) (word / 256) 0 0 ≡ word = omega arith in
+    let b : Data = record { one = word % 256; two = word / 256; three = 0; four = 0 } in
+    let done : served d (request 0x2B 0x6040 0 b) ≡ answer Written (controlled word d) = rw number (control-is-a-write d word w) in
+    rw (s .sound) (ap (λ (r : Answer). change Done (r .device)) (sym (frame-answered s 0x2B 0x6040 0 b (length room) refl h ∙ done)))
+
+stored : (d e : Device) (room : List ℕ) → Sound d → Sound e → e .state ≡ DISABLED → 97 ≤ length room → loadAnswer e (take 97 (storeRoom d room)) ≡ change Done (loaded (d .block .settings) e)
+stored d e room s t h k = rw (store-leaves-image s room k) (round-trip s t h)
+
+found : (d : Device) (room : List ℕ) (tag : ℕ) → Sound d → 97 ≤ length room → 1 ≤ tag → tag ≤ SETTINGS → partOf (take 97 (storeRoom d room)) (walk (take 97 (storeRoom d room)) tag) ≡ valueBytes (tag - 1) (setting (d .block) (tag - 1))
+found d room tag s k l m =
+    let e : tagOf (tag - 1) ≡ tag = omega arith in
+    rw (store-leaves-image s room k) (rw e at (stored-value-found (d .block .settings) (tag - 1) (omega arith)))
+
+status-word : (d : Device) → Sound d → asked status d ≡ told (pos (statusIn (d .state) (d .block .position =? deviceTargetPosition d)))
+unfolding queryAnswer statusOf targetMet
+status-word d s =
+    rw (s .sound)
+    (by-cases (eqb (d .state) DISABLED) (λ e. rw e)
+    (λ e. by-cases (d .block .position =? deviceTargetPosition d)
+    (λ m. by-cases (eqb (d .state) HOLD) (λ f. rw (e, f, m)) (λ f. by-cases (eqb (d .state) ACTIVE) (λ g. rw (e, f, m, g)) (λ g. rw (e, f, g))))
+    (λ m. by-cases (eqb (d .state) HOLD) (λ f. rw (e, f, m)) (λ f. by-cases (eqb (d .state) ACTIVE) (λ g. rw (e, f, m, g)) (λ g. rw (e, f, g))))))
+
+-- a time's unit and prefix, by a test over the six indexes
+abbrev isByte : Named → ℕ → Bool
+isByte (value k) n = false
+isByte (byte m) n = m is n
+isByte (nothing code) n = false
+
+is-byte : (m : Named) (n : ℕ) → isByte m n ≡ true → m ≡ byte n
+is-byte (value k) n e = clash e refl
+is-byte (byte m) n e = ap byte (eqb-true m n e)
+is-byte (nothing code) n e = clash e refl
+
+of-a-time : (sub n j : ℕ) → each 6 (λ k. isByte (named (0x6331 + k) sub) n) ≡ true → j < 6 → named (0x6331 + j) sub ≡ byte n
+of-a-time sub n j t h = is-byte _ n (each-at 6 (λ k. isByte (named (0x6331 + k) sub) n) j t h)
+
+fixed-read : {d : Device} → Sound d → (index sub n : ℕ) (b : Data) (r : List ℕ) → FRAME ≤ length r → named index sub ≡ byte n → sdoRoom d (reading index sub b) r ≡ frame 0x4F index sub (fourBytes n) ++ drop FRAME r
+unfolding repliedIn readDecision readOf readReply frameOf
+fixed-read s index sub n b r h e = read-replied s index sub b r h ∙ rw e
+
+unit : (d : Device) (index : ℕ) (b : Data) (r : List ℕ) → Sound d → 8 ≤ length r → 0x6331 ≤ index → index ≤ 0x6336 → (sdoRoom d (reading index 2 b) r ≡ frame 0x4F index 2 (0x03 ∷ 0 ∷ 0 ∷ 0 ∷ []) ++ drop 8 r) × (sdoRoom d (reading index 3 b) r ≡ frame 0x4F index 3 (0xFD ∷ 0 ∷ 0 ∷ 0 ∷ []) ++ drop 8 r)
+unfolding each objects named placeOf placeFrom entryAt fourBytes
+unit d index b r s h k l =
+    let e : 0x6331 + (index - 0x6331) ≡ index = omega arith in (
+      fixed-read s index 2 0x03 b r h (rw e at (of-a-time 2 0x03 (index - 0x6331) refl (omega arith))),
+      fixed-read s index 3 0xFD b r h (rw e at (of-a-time 3 0xFD (index - 0x6331) refl (omega arith))),
+    )
+
+pub demand2 : Demand2
+demand2 =
+    record {
+      write = write;
+      unwritten = sdo-unchanged;
+      control = control-written;
+      stored = stored;
+      found = found;
+      status-word = status-word;
+      unit = unit;
+    }

@@ -1,0 +1,133 @@
+-- A tick of a sound device is done and leaves a sound device, so that demand 3 of the device, proved of its events, holds of the calls. The status word's bit 8 compares position and target, which is the formula at tick 0. A control word moves by its bits 0 to 3 and by bit 3 of the word stored before, which are those of the remainders by 16.
+use mathlib.Core.Bool.{Bool, true, false}
+use mathlib.Core.Path.{_≡_, refl, sym, ap, _∙_}
+use Prim.Native.Nat.{ℕ, zero, suc, _%_, _/_}
+use native.Mathlib.Omega.{arith}
+use borrow.Author.Tests.{eqb-true}
+use lib.Dec.{eqb}
+use lib.IntN.{ℤ}
+use Rattle.integers.specs.Words.{if_then_else_, _=?_}
+use Rattle.integers.proofs.Cases.{by-cases}
+use Rattle.integers.proofs.Machine.{=?-refl, =?-no}
+use Rattle.device.specs.States.{HOLD, ACTIVE, bit, fromDisabled, fromHold, fromActive, fromFault, nextState, driven}
+use Rattle.ramp.specs.Ramp.{ramped, opposite}
+use Rattle.block.specs.Target.{targetPosition}
+use Rattle.block.specs.Travel.{rampOf}
+use Rattle.block.proofs.Travel.{block-demand3}
+use Rattle.device.specs.Device.{withControl, isActive}
+use Rattle.device.specs.Events.{entering, controlled, tickDeviceTimes}
+use Rattle.device.specs.Queries.{targetMet, statusOf, deviceTarget, deviceTicksToGo}
+use Rattle.device.specs.Sound.{soundDevice, rests, Sound}
+use Rattle.device.specs.Demand.{devicePositionAfter, deviceTargetPosition}
+use Rattle.device.specs.declared.Device.{Device}
+use Rattle.device.proofs.Laws.{block-of-sound, tick-sound}
+use Rattle.device.proofs.Travel as Travel
+use Rattle.rainsheave.specs.Calls.{change, controlAnswer, tickAnswer, jumpAnswer, queryAnswer}
+use Rattle.rainsheave.specs.declared.Report.the-variants.{Done}
+use Rattle.rainsheave.specs.declared.Change.{Change}
+use Rattle.promises.specs.Calls.{Query, valueOf, position, target, ticksToGo, asked, told}
+use Rattle.promises.specs.Demand3.{ticks, bitEight, Demand3}
+
+-- a query of a sound device is answered
+pub is-told : {d : Device} → Sound d → (q : Query) → asked q d ≡ told (valueOf q d)
+unfolding queryAnswer
+is-told s q = rw (s .sound)
+
+-- ---- bits of a control word
+
+-- bit k, for k below 4, is that of the remainder
+low-bits : (word : ℕ) → (bit 0 (word % 16) ≡ bit 0 word) × (bit 1 (word % 16) ≡ bit 1 word) × (bit 2 (word % 16) ≡ bit 2 word) × (bit 3 (word % 16) ≡ bit 3 word)
+low-bits word = (
+  let e : word % 16 / 1 % 2 ≡ word / 1 % 2 = omega arith in rw e,
+  let e : word % 16 / 2 % 2 ≡ word / 2 % 2 = omega arith in rw e,
+  let e : word % 16 / 4 % 2 ≡ word / 4 % 2 = omega arith in rw e,
+  let e : word % 16 / 8 % 2 ≡ word / 8 % 2 = omega arith in rw e,
+)
+
+same-move : (state before word : ℕ) → nextState state before (word % 16) ≡ nextState state before word
+unfolding nextState fromDisabled fromHold fromActive fromFault
+same-move state before word = let b = low-bits word in rw (b .0, b .1, b .2, b .3)
+
+same-after : (state before word : ℕ) → nextState state (before % 16) word ≡ nextState state before word
+unfolding nextState fromFault
+same-after state before word = rw (low-bits before .3)
+
+-- ---- the status word in HOLD and ACTIVE
+
+by-driven : (state : ℕ) {X : Type 0} → driven state ≡ true → (state ≡ HOLD → X) → (state ≡ ACTIVE → X) → X
+unfolding driven
+by-driven state k hold active = by-cases (eqb state HOLD) (λ e. hold (eqb-true state HOLD e)) (λ e. active (eqb-true state ACTIVE (rw e at k)))
+
+-- bit 8 is whether position equals target
+bit-eight : (d : Device) (met : Bool) → driven (d .state) ≡ true → (d .block .position =? deviceTargetPosition d) ≡ met → bitEight (statusOf d) ≡ (if met then 1 else 0)
+unfolding statusOf targetMet
+bit-eight d true k e = by-driven (d .state) k (λ h. rw (e, h)) (λ h. rw (e, h))
+bit-eight d false k e = by-driven (d .state) k (λ h. rw (e, h)) (λ h. rw (e, h))
+
+equal : {a b : ℤ} → a ≡ b → (a =? b) ≡ true
+equal {b} e = rw e (=?-refl b)
+
+-- ---- demand 3
+
+module _ {d : Device} (s : Sound d) where
+  times-sound : (n : ℕ) → Sound (tickDeviceTimes n d)
+  unfolding tickDeviceTimes
+  times-sound zero = s
+  times-sound (suc n) = tick-sound (times-sound n)
+
+  ticks-done : (n : ℕ) → ticks n d ≡ change Done (tickDeviceTimes n d)
+  unfolding ticks tickDeviceTimes tickAnswer
+  ticks-done zero = refl
+  ticks-done (suc n) = ap (λ (c : Change). tickAnswer (c .device)) (ticks-done n) ∙ rw (times-sound n .sound)
+
+  ticks-jump : (n : ℕ) → ticks n d ≡ jumpAnswer d n
+  unfolding jumpAnswer
+  ticks-jump n = rw (s .sound) (ticks-done n ∙ ap (change Done) (Travel.demand3 s .ticks n))
+
+  here : d .block .position ≡ devicePositionAfter 0 d
+  unfolding tickDeviceTimes
+  here = Travel.demand3 s .formula 0
+
+  -- the ramp's ticks are the formula's positions
+  uncrossed : ramped (rampOf (d .block)) ≡ true → (n : ℕ) → opposite (devicePositionAfter n d) (devicePositionAfter (suc n) d) ≡ false
+  unfolding devicePositionAfter
+  uncrossed r n =
+      let of-block = block-demand3 (block-of-sound s) (isActive d) in
+      by-cases (driven (d .state))
+      (λ k. rw (k, ← of-block .formula n, ← of-block .formula (suc n)) (of-block .uncrossed r n))
+      (λ k. unfold opposite in rw k)
+
+  still-sound : (word : ℕ) → soundDevice (withControl word d) ≡ true
+  unfolding soundDevice rests
+  still-sound word = s .sound
+
+  high-bits : (word : ℕ) → withControl (word % 16) (controlAnswer d word .device) ≡ controlAnswer d (word % 16) .device
+  unfolding controlAnswer controlled
+  high-bits word = rw (s .sound, same-move (d .state) (d .control) word)
+
+  stored-bits : (before word : ℕ) → controlAnswer (withControl before d) word ≡ controlAnswer (withControl (before % 16) d) word
+  unfolding controlAnswer controlled entering
+  stored-bits before word = rw (still-sound before, still-sound (before % 16), same-after (d .state) before word)
+
+  pub demand3 : Demand3 d
+  unfolding ticks
+  demand3 =
+      let of-events = Travel.demand3 s in
+      record {
+        jumps = ticks-jump;
+        done = λ n. unfold jumpAnswer in rw (s .sound);
+        none = sym (ticks-jump 0);
+        formula = λ n. rw ticks-done (is-told (times-sound n) position ∙ ap told (of-events .formula n));
+        target-position = unfold deviceTarget targetPosition in refl;
+        targeted = is-told s target;
+        counted = is-told s ticksToGo;
+        kept = of-events .kept;
+        first = of-events .first;
+        latest = of-events .latest;
+        at-rest = λ k. (unfold deviceTicksToGo in rw k, λ n. unfold devicePositionAfter in rw k);
+        uncrossed = uncrossed;
+        arrived = λ k e. bit-eight d true k (equal (here ∙ of-events .kept k 0 (omega arith)));
+        under-way = λ k h. bit-eight d false k (=?-no (d .block .position) (deviceTargetPosition d) (λ e. of-events .first k 0 h (sym here ∙ e)));
+        high-bits = high-bits;
+        stored-bits = stored-bits;
+      }

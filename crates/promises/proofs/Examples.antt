@@ -1,0 +1,55 @@
+-- Each example is computed: with every definition on its way from fresh unfolded, both sides come to the same value.
+use mathlib.Core.Path.{refl}
+use Rattle.integers.specs.Words.{each}
+use Rattle.objects.specs.Table.{objects, isSigned}
+use Rattle.objects.specs.Lookup.{placeFrom, placeOf, entryAt}
+use Rattle.coding.specs.Bytes.{fourBytes}
+use Rattle.coding.specs.Coding.{span, inSpan, valueOf}
+use Rattle.ramp.specs.Ramp.{awayTime, backTime, stepOf, opposite, decelerates, distance, toward, moved, halts, stop, stride, tickOf, roundedUp, ticksToZero, ticksToGo}
+use Rattle.block.specs.Block.{freshBlock}
+use Rattle.block.specs.Command.{wholeOf, banded, bandedBy, commandOf}
+use Rattle.block.specs.Sound.{liesIn, soundSettings, soundBlock}
+use Rattle.block.specs.Target.{inputOf, clampTo, clampToStroke, scaledBy, targetFrom, targetOf, targetPosition}
+use Rattle.block.specs.Travel.{tickBlock, ticksToGoOf}
+use Rattle.device.specs.Device.{freshDevice}
+use Rattle.device.specs.Events.{blockIn, errorIn, entering, controlled, reported, faulted, tickDevice}
+use Rattle.device.specs.Queries.{deviceTarget, deviceCommand, deviceTicksToGo}
+use Rattle.device.specs.Sound.{isState, errorFits, rests, soundDevice}
+use Rattle.device.specs.States.{fromDisabled, fromHold, fromActive, fromFault, nextState, driven}
+use Rattle.dictionary.specs.Decide.{crosses, isLocked, verdictOn, writeOf, writeDecision}
+use Rattle.dictionary.specs.Named.{named}
+use Rattle.dictionary.specs.Values.{writtenTo}
+use Rattle.sdo.specs.Frames.{asksOf, frameOf, repliedIn}
+use Rattle.sdo.specs.Serve.{decisionOn, served}
+use Rattle.rainsheave.specs.Calls.{tickAnswer, queryAnswer, sdoAnswer, sdoRoom, controlAnswer, faultAnswer}
+use Rattle.promises.specs.History.{afterAll, altersNothing}
+use Rattle.promises.specs.Examples.{Examples, Witnesses}
+
+pub examples : Examples
+unfolding each objects isSigned placeFrom placeOf entryAt fourBytes span inSpan valueOf awayTime backTime stepOf opposite decelerates distance toward moved halts stop stride tickOf roundedUp ticksToZero ticksToGo freshBlock wholeOf banded bandedBy commandOf liesIn soundSettings soundBlock inputOf clampTo clampToStroke scaledBy targetFrom targetOf targetPosition tickBlock ticksToGoOf freshDevice blockIn errorIn entering controlled reported faulted tickDevice deviceTarget deviceCommand deviceTicksToGo isState errorFits rests soundDevice fromDisabled fromHold fromFault nextState driven crosses isLocked verdictOn writeOf writeDecision named writtenTo asksOf frameOf repliedIn decisionOn served tickAnswer queryAnswer sdoAnswer sdoRoom controlAnswer faultAnswer afterAll
+examples =
+    record {
+      limits = refl;
+      half-of-minus-one = refl;
+      half-of-minus-three = refl;
+      largest-factor = refl;
+      step-of-a-second = refl;
+      stroke-in-a-second = refl;
+      step-of-an-hour = refl;
+      out-and-in = refl;
+      ticks-out-and-in = refl;
+      at-the-threshold = refl;
+      above-it = refl;
+      below-its-negative = refl;
+      clamped = refl;
+      seven-is-hold = refl;
+      seven-again-is-active = refl;
+      in-fault = refl;
+      eight-resets = refl;
+      crossed-is-aborted = refl;
+      equal-is-accepted = refl;
+    }
+
+pub witnesses : Witnesses
+unfolding each objects isSigned placeFrom placeOf entryAt fourBytes span inSpan valueOf awayTime backTime stepOf opposite decelerates distance toward moved halts stop stride tickOf roundedUp ticksToZero ticksToGo freshBlock wholeOf banded bandedBy commandOf liesIn soundSettings soundBlock inputOf clampTo clampToStroke scaledBy targetFrom targetOf targetPosition tickBlock ticksToGoOf freshDevice blockIn errorIn entering controlled reported faulted tickDevice deviceTarget deviceCommand deviceTicksToGo isState errorFits rests soundDevice fromDisabled fromHold fromFault nextState driven crosses isLocked verdictOn writeOf writeDecision named writtenTo asksOf frameOf repliedIn decisionOn served tickAnswer queryAnswer sdoAnswer sdoRoom controlAnswer faultAnswer afterAll fromActive altersNothing
+witnesses = record { longest = refl; leaves = (refl, refl); returns = (refl, refl); factor-counts = refl }

@@ -1,0 +1,146 @@
+-- Demand 2, by bytes, of a sound device: a write that no rule forbids is acknowledged and read back, and leaves all else as it was;
+-- storing and loading bring the same settings back.
+use mathlib.Core.Bool.{Bool, false, not, _&&_, _||_}
+use mathlib.Core.List.{List, [], _∷_, _++_}
+use mathlib.Core.Logic.{_≢_}
+use mathlib.Core.Path.{_≡_}
+use Prim.Native.Nat.{ℕ, _-_, _%_, _/_, _≤_, _<_}
+use lib.IntN.{ℤ, pos}
+use lib.ListN.{length, take, drop}
+use Rattle.integers.specs.Words.{if_then_else_, _is_, _below_, _=?_}
+use Rattle.objects.specs.Places.{SETTINGS, WRITABLE, CONTROL-WORD, STATUS-WORD, ERROR-CODE, COMMAND}
+use Rattle.objects.specs.Table.{rowAt, InRange}
+use Rattle.coding.specs.Bytes.{fourBytes}
+use Rattle.coding.specs.Coding.{numberOf}
+use Rattle.block.specs.Block.{setting}
+use Rattle.device.specs.States.{DISABLED, ACTIVE}
+use Rattle.device.specs.Demand.{deviceTargetPosition}
+use Rattle.device.specs.Sound.{Sound}
+use Rattle.device.specs.declared.Device.{Device}
+use Rattle.dictionary.specs.Named.{value, named}
+use Rattle.dictionary.specs.Decide.{crosses}
+use Rattle.image.specs.Fields.{valueBytes}
+use Rattle.image.specs.Walk.{walk, partOf}
+use Rattle.sdo.specs.declared.Outcome.the-variants.{Written}
+use Rattle.rainsheave.specs.Calls.{change, loaded, sdoAnswer, sdoRoom, controlAnswer, storeRoom, loadAnswer}
+use Rattle.rainsheave.specs.declared.Report.the-variants.{Done}
+use Rattle.promises.specs.Calls.{sdo, status, asked, told, after}
+
+-- ---- requests and replies, by bytes
+
+-- four data bytes
+pub record Data : Type 0 where
+  pub one : ℕ
+  pub two : ℕ
+  pub three : ℕ
+  pub four : ℕ
+
+abbrev pub list : Data → List ℕ
+list b = b .one ∷ b .two ∷ b .three ∷ b .four ∷ []
+
+-- command, index low first, sub-index, four data bytes
+abbrev pub frame : ℕ → ℕ → ℕ → List ℕ → List ℕ
+frame command index sub data-bytes = command ∷ index % 256 ∷ index / 256 ∷ sub ∷ data-bytes
+
+-- the command byte of a write of 1, 2 or 4 bytes, and of the reply to a read of so many
+abbrev pub writes : ℕ → ℕ
+writes size = if size is 1 then 0x2F else if size is 2 then 0x2B else 0x23
+
+abbrev pub tells : ℕ → ℕ
+tells size = if size is 1 then 0x4F else if size is 2 then 0x4B else 0x43
+
+-- the sub-index of an object's value: 0 of a variable, 1 of a record
+abbrev pub valueSub : ℕ → ℕ
+valueSub place = if rowAt place .entries is 0 then 0 else 1
+
+-- the four bytes of an object's value, low first, unused ones zero
+abbrev pub valueData : ℕ → ℤ → List ℕ
+valueData place x = fourBytes (numberOf (rowAt place .size) x)
+
+-- the request that writes data bytes to the object at a place, and one that reads an entry, whatever its data bytes are
+abbrev pub writing : ℕ → List ℕ → List ℕ
+writing place data-bytes = frame (writes (rowAt place .size)) (rowAt place .index) (valueSub place) data-bytes
+
+abbrev pub reading : ℕ → ℕ → Data → List ℕ
+reading index sub b = frame 0x40 index sub (list b)
+
+-- the reply to an acknowledged write
+abbrev pub acknowledgement : ℕ → List ℕ
+acknowledgement place = frame 0x60 (rowAt place .index) (valueSub place) (0 ∷ 0 ∷ 0 ∷ 0 ∷ [])
+
+-- the reply to a read of the object at a place with a value
+abbrev pub telling : ℕ → ℤ → List ℕ
+telling place x = frame (tells (rowAt place .size)) (rowAt place .index) (valueSub place) (valueData place x)
+
+-- ---- a write
+
+-- 6330h to 6336h and 6342h to 6345h
+abbrev pub isLockable : ℕ → Bool
+isLockable index = (not (index below 0x6330) && index below 0x6337) || (not (index below 0x6342) && index below 0x6346)
+
+-- a write that no rule forbids: an object that can be written, a value in its range that leaves the limits uncrossed, and no lock;
+-- of the data bytes those that the type has are the value's, and the others whatever they are
+pub record Allowed (d : Device) (place : ℕ) (x : ℤ) (b : Data) : Type 0 where
+  pub sound : Sound d
+  pub writable : place < WRITABLE
+  pub range : InRange place x
+  pub uncrossed : crosses d place x ≡ false
+  pub unlocked : (isLockable (rowAt place .index) && d .state is ACTIVE) ≡ false
+  pub stands : take (rowAt place .size) (list b) ≡ take (rowAt place .size) (valueData place x)
+
+-- the device after it
+abbrev pub written : Device → ℕ → Data → List ℕ → Device
+written d place b room = after (sdo (writing place (list b)) room) d
+
+-- what it gets and what it leaves, with rooms for the replies of eight bytes or more
+pub record Kept (d : Device) (place : ℕ) (x : ℤ) (b : Data) (room : List ℕ) : Type 0 where
+  -- the reply 60h, index, sub, zeros
+  pub acknowledged : sdoRoom d (writing place (list b)) room ≡ acknowledgement place ++ drop 8 room
+  pub outcome : sdoAnswer d (writing place (list b)) (length room) .outcome ≡ Written
+  -- and it is read back
+  pub read-back :
+      (c : Data) (r : List ℕ) → 8 ≤ length r →
+      sdoRoom (written d place b room) (reading (rowAt place .index) (valueSub place) c) r ≡ telling place x ++ drop 8 r
+  -- but where 6040h was written, state, error code and position are as they were
+  pub state : place ≢ CONTROL-WORD → written d place b room .state ≡ d .state
+  pub error : place ≢ CONTROL-WORD → written d place b room .error ≡ d .error
+  pub position : place ≢ CONTROL-WORD → written d place b room .block .position ≡ d .block .position
+  -- every other entry reads as before: all but status word, command and, where 6040h was written, error code
+  pub others :
+      (index sub : ℕ) → named index sub ≢ value place →
+      named index sub ≢ value STATUS-WORD → named index sub ≢ value COMMAND → (place ≡ CONTROL-WORD → named index sub ≢ value ERROR-CODE) →
+      (c : Data) (r : List ℕ) → sdoRoom (written d place b room) (reading index sub c) r ≡ sdoRoom d (reading index sub c) r
+
+-- the status word of a state: 8 in DISABLED, 9 in HOLD, 15 in ACTIVE, 0 in FAULT; in HOLD and ACTIVE, 256 is added while position equals target
+abbrev pub statusIn : ℕ → Bool → ℕ
+statusIn state met =
+    if state is 0 then 8
+    else if state is 1 then (if met then 265 else 9)
+    else if state is 2 then (if met then 271 else 15)
+    else 0
+
+pub record Demand2 : Type 0 where
+  pub write : (d : Device) (place : ℕ) (x : ℤ) (b : Data) (room : List ℕ) → Allowed d place x b → 8 ≤ length room → Kept d place x b room
+  -- a read or an abort changes nothing
+  pub unwritten : (d : Device) (request : List ℕ) (room : ℕ) → sdoAnswer d request room .outcome ≢ Written → sdoAnswer d request room .device ≡ d
+  -- `control` is a write of 6040h
+  pub control :
+      (d : Device) (word : ℕ) (room : List ℕ) → Sound d → word < 65536 → 8 ≤ length room →
+      controlAnswer d word ≡ change Done (after (sdo (0x2B ∷ 0x40 ∷ 0x60 ∷ 0x00 ∷ word % 256 ∷ word / 256 ∷ 0 ∷ 0 ∷ []) room) d)
+  -- the first 97 bytes of a room after a store of a sound device, loaded into a sound disabled device: the settings of the first, and all else of the second
+  pub stored :
+      (d e : Device) (room : List ℕ) → Sound d → Sound e → e .state ≡ DISABLED → 97 ≤ length room →
+      loadAnswer e (take 97 (storeRoom d room)) ≡ change Done (loaded (d .block .settings) e)
+  -- and `find` in them gives each tag's value
+  pub found :
+      (d : Device) (room : List ℕ) (tag : ℕ) → Sound d → 97 ≤ length room → 1 ≤ tag → tag ≤ SETTINGS →
+      partOf (take 97 (storeRoom d room)) (walk (take 97 (storeRoom d room)) tag) ≡ valueBytes (tag - 1) (setting (d .block) (tag - 1))
+  -- `status` answers the word of the state
+  pub status-word :
+      (d : Device) → Sound d →
+      asked status d ≡ told (pos (statusIn (d .state) (d .block .position =? deviceTargetPosition d)))
+  -- a time's unit reads 03h and its prefix -3, for 6331h to 6336h
+  pub unit :
+      (d : Device) (index : ℕ) (c : Data) (r : List ℕ) → Sound d → 8 ≤ length r → 0x6331 ≤ index → index ≤ 0x6336 →
+      (sdoRoom d (reading index 2 c) r ≡ frame 0x4F index 2 (0x03 ∷ 0 ∷ 0 ∷ 0 ∷ []) ++ drop 8 r)
+      × (sdoRoom d (reading index 3 c) r ≡ frame 0x4F index 3 (0xFD ∷ 0 ∷ 0 ∷ 0 ∷ []) ++ drop 8 r)

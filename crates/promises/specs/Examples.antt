@@ -1,0 +1,122 @@
+-- Document 01, "Examples": the starred ones, in the paper's order, each by calls from fresh: settings by SDO writes, positions by ticks.
+use mathlib.Core.Bool.{true}
+use mathlib.Core.List.{List, [], _∷_, _++_, map}
+use mathlib.Core.Path.{_≡_}
+use Prim.Native.Nat.{ℕ, zero, suc, _-_, _%_, _/_}
+use lib.IntN.{ℤ, pos, negsuc, _*ℤ_}
+use Rattle.integers.specs.Words.{minus}
+use Rattle.device.specs.States.{DISABLED, HOLD, ACTIVE, FAULT}
+use Rattle.rainsheave.specs.declared.Reading.{Reading}
+use Rattle.promises.specs.Calls.{Call, sdo, control, fault, tick, Query, state, position, target, command, ticksToGo, asked, told, left}
+use Rattle.promises.specs.History.{history, altersNothing}
+
+-- ---- the calls
+
+-- room for a reply
+abbrev zeros : List ℕ
+zeros = 0 ∷ 0 ∷ 0 ∷ 0 ∷ 0 ∷ 0 ∷ 0 ∷ 0 ∷ []
+
+-- a number of two bytes as four data bytes, and of four
+abbrev two : ℕ → List ℕ
+two n = n % 256 ∷ n / 256 ∷ 0 ∷ 0 ∷ []
+
+abbrev four : ℕ → List ℕ
+four n = n % 256 ∷ n / 256 % 256 ∷ n / 65536 % 256 ∷ n / 16777216 ∷ []
+
+-- the two's complement of a value of two bytes
+abbrev complement : ℤ → ℕ
+complement (pos n) = n
+complement (negsuc n) = 65535 - n
+
+-- writes: of two bytes to a record, of four to a variable and to a record, of one to a variable
+abbrev word : ℕ → ℤ → Call
+word index x = sdo (0x2B ∷ index % 256 ∷ index / 256 ∷ 1 ∷ two (complement x)) zeros
+
+abbrev factor : ℕ → Call
+factor n = sdo (0x23 ∷ 0x22 ∷ 0x63 ∷ 0 ∷ four n) zeros
+
+abbrev time : ℕ → ℕ → Call
+time index n = sdo (0x23 ∷ index % 256 ∷ index / 256 ∷ 1 ∷ four n) zeros
+
+abbrev choice : ℕ → ℕ → Call
+choice index n = sdo (0x2F ∷ index % 256 ∷ index / 256 ∷ 0 ∷ n ∷ 0 ∷ 0 ∷ 0 ∷ []) zeros
+
+-- the input, 6314h, in DISABLED and HOLD
+abbrev input : ℤ → Call
+input x = word 0x6314 x
+
+-- so many ticks
+abbrev tickTimes : ℕ → List Call
+tickTimes zero = []
+tickTimes (suc n) = tick ∷ tickTimes n
+
+-- what a query answers after calls from fresh
+abbrev answer : Query → List Call → Reading
+answer q calls = asked q (history calls)
+
+-- so many ir, as the answers of `position`
+abbrev ir : List ℤ → List Reading
+ir = map (λ z. told (z *ℤ pos 65536))
+
+-- ---- settings and starts
+
+-- limits -5000 to 10000, factor 131072, offsets 100 and -50
+abbrev limited : List Call
+limited = word 0x6321 (minus 5000) ∷ word 0x6320 (pos 10000) ∷ factor 131072 ∷ word 0x6323 (pos 100) ∷ word 0x6324 (minus 50) ∷ []
+
+-- type 1 with a time, in HOLD at 0 with the target at full stroke
+abbrev rising : ℕ → List Call
+rising n = choice 0x6330 1 ∷ time 0x6331 n ∷ input (pos 16384) ∷ control 1 ∷ []
+
+-- type 2, steps 16 ir out and 32 ir in, in HOLD at 100 ir with the target -50 ir
+abbrev outAndIn : List Call
+outAndIn = input (pos 100) ∷ control 1 ∷ tick ∷ choice 0x6330 2 ∷ time 0x6331 1024 ∷ time 0x6334 512 ∷ input (minus 50) ∷ []
+
+-- threshold 20, A 300, B 200, in HOLD at so many ir
+abbrev deadBand : ℤ → List Call
+deadBand r = choice 0x6342 1 ∷ word 0x6345 (pos 20) ∷ word 0x6343 (pos 300) ∷ word 0x6344 (pos 200) ∷ input r ∷ control 1 ∷ tick ∷ []
+
+pub record Examples : Type 0 where
+  pub limits : answer target (limited ++ (input (minus 32768) ∷ [])) ≡ told (minus 9950)
+  pub half-of-minus-one : answer target (factor 32768 ∷ input (minus 1) ∷ []) ≡ told (pos 0)
+  pub half-of-minus-three : answer target (factor 32768 ∷ input (minus 3) ∷ []) ≡ told (minus 1)
+  pub largest-factor : answer target (factor 4294967295 ∷ input (minus 16384) ∷ []) ≡ told (minus 16384)
+  pub step-of-a-second : answer position (rising 1000 ++ tickTimes 1) ≡ told (pos 1073741)
+  pub stroke-in-a-second : answer ticksToGo (rising 1000) ≡ told (pos 1001)
+  pub step-of-an-hour : answer position (rising 3600000 ++ tickTimes 1) ≡ told (pos 298)
+  pub out-and-in :
+      map (λ n. answer position (outAndIn ++ tickTimes n)) (0 ∷ 1 ∷ 2 ∷ 3 ∷ 4 ∷ 5 ∷ 6 ∷ 7 ∷ 8 ∷ [])
+      ≡ ir (pos 100 ∷ pos 68 ∷ pos 36 ∷ pos 4 ∷ pos 0 ∷ minus 16 ∷ minus 32 ∷ minus 48 ∷ minus 50 ∷ [])
+  pub ticks-out-and-in : answer ticksToGo outAndIn ≡ told (pos 8)
+  pub at-the-threshold : answer command (deadBand (pos 20)) ≡ told (pos 0)
+  pub above-it : answer command (deadBand (pos 21)) ≡ told (pos 321)
+  pub below-its-negative : answer command (deadBand (minus 21)) ≡ told (minus 221)
+  pub clamped : answer command (deadBand (minus 16300)) ≡ told (minus 16384)
+  pub seven-is-hold : answer state (control 7 ∷ []) ≡ told (pos HOLD)
+  pub seven-again-is-active : answer state (control 7 ∷ control 7 ∷ []) ≡ told (pos ACTIVE)
+  -- FAULT with 7 stored, and then 8
+  pub in-fault : answer state (control 7 ∷ fault 0x1000 ∷ []) ≡ told (pos FAULT)
+  pub eight-resets : answer state (control 7 ∷ fault 0x1000 ∷ control 8 ∷ []) ≡ told (pos DISABLED)
+  pub crossed-is-aborted :
+      left (sdo (0x2B ∷ 0x20 ∷ 0x63 ∷ 0x01 ∷ 0xFF ∷ 0xBF ∷ 0x00 ∷ 0x00 ∷ []) zeros) (history [])
+      ≡ 0x80 ∷ 0x20 ∷ 0x63 ∷ 0x01 ∷ 0x36 ∷ 0x00 ∷ 0x09 ∷ 0x06 ∷ []
+  pub equal-is-accepted :
+      left (sdo (0x2B ∷ 0x20 ∷ 0x63 ∷ 0x01 ∷ 0x00 ∷ 0xC0 ∷ 0x00 ∷ 0x00 ∷ []) zeros) (history [])
+      ≡ 0x60 ∷ 0x20 ∷ 0x63 ∷ 0x01 ∷ 0x00 ∷ 0x00 ∷ 0x00 ∷ 0x00 ∷ []
+
+-- what shows that promises are not empty, beside the paper's examples
+pub record Witnesses : Type 0 where
+  -- the bound on the ticks to go is attained: from end to end at the longest times, with the halt at zero
+  pub longest :
+      answer ticksToGo
+      (input (minus 16384) ∷ control 1 ∷ tick ∷ choice 0x6330 2 ∷ time 0x6331 3600000 ∷ time 0x6334 3600000 ∷ input (pos 16384) ∷ [])
+      ≡ told (pos 7206322)
+  -- a device goes from ACTIVE to HOLD and back by calls that alter nothing
+  pub leaves :
+      (altersNothing (control 1 ∷ []) (history (control 7 ∷ control 7 ∷ [])) ≡ true)
+      × (answer state (control 7 ∷ control 7 ∷ control 1 ∷ []) ≡ told (pos HOLD))
+  pub returns :
+      (altersNothing (control 7 ∷ []) (history (control 7 ∷ control 7 ∷ control 1 ∷ [])) ≡ true)
+      × (answer state (control 7 ∷ control 7 ∷ control 1 ∷ control 7 ∷ []) ≡ told (pos ACTIVE))
+  -- the factor counts: with the largest, an input of 1 is at full stroke
+  pub factor-counts : answer target (factor 4294967295 ∷ input (pos 1) ∷ []) ≡ told (pos 16384)

@@ -1,0 +1,65 @@
+-- The paper's numbers by their names, each as document 01 prints it: indexes, tags, entries of a time, states, status words, abort codes, numbers handed back.
+use mathlib.Core.List.{[], _∷_, map}
+use mathlib.Core.Path.{_≡_}
+use Prim.Native.Nat.{ℕ, _-_}
+use Rattle.objects.specs.Places.{HOLD-SET-POINT, UPPER-LIMIT, LOWER-LIMIT, SCALING-FACTOR, SCALING-OFFSET, ZERO-CORRECTION, RAMP-TYPE}
+use Rattle.objects.specs.Places.{ACCELERATION, ACCELERATION-POSITIVE, ACCELERATION-NEGATIVE, DECELERATION, DECELERATION-POSITIVE, DECELERATION-NEGATIVE}
+use Rattle.objects.specs.Places.{DEAD-BAND-TYPE, A-SIDE, B-SIDE, THRESHOLD, SET-POINT, CONTROL-WORD, STATUS-WORD, ERROR-CODE, COMMAND, SETTINGS, ROWS}
+use Rattle.objects.specs.Table.{rowAt}
+use Rattle.objects.specs.Lookup.{SECONDS, MILLI}
+use Rattle.device.specs.States.{DISABLED, HOLD, ACTIVE, FAULT}
+use Rattle.device.specs.Queries.{STATUS-DISABLED, STATUS-HOLD, STATUS-ACTIVE, STATUS-FAULT, TARGET-MET}
+use Rattle.dictionary.specs.Aborts.{UNKNOWN-COMMAND, NO-OBJECT, NO-SUB-INDEX, READ-ONLY-ENTRY, WRONG-SIZE, TOO-HIGH, TOO-LOW}
+use Rattle.dictionary.specs.Aborts.{NO-SUCH-CHOICE, LIMITS-CROSSED, LOCKED-NOW}
+use Rattle.image.specs.Walk.{FIELD-CUT, NOT-FOUND}
+use Rattle.rainsheave.specs.Numbers.{UNSOUND, WRONG-LENGTH, NO-ROOM, NO-REPLY-DUE, NO-FAULT, NO-IMAGE-ROOM, NOT-FULL, BAD-VALUE, NOT-DISABLED}
+
+-- the index of the object at a place, and of the setting with a tag
+abbrev pub indexAt : ℕ → ℕ
+indexAt place = rowAt place .index
+
+abbrev pub indexOfTag : ℕ → ℕ
+indexOfTag tag = rowAt (tag - 1) .index
+
+pub record Names : Type 0 where
+  -- which object is at which index
+  pub control-word : indexAt CONTROL-WORD ≡ 0x6040
+  pub status-word : indexAt STATUS-WORD ≡ 0x6041
+  pub error-code : indexAt ERROR-CODE ≡ 0x604E
+  pub set-point : indexAt SET-POINT ≡ 0x6300
+  pub command : indexAt COMMAND ≡ 0x6310
+  pub hold-set-point : indexAt HOLD-SET-POINT ≡ 0x6314
+  pub upper-limit : indexAt UPPER-LIMIT ≡ 0x6320
+  pub lower-limit : indexAt LOWER-LIMIT ≡ 0x6321
+  pub scaling-factor : indexAt SCALING-FACTOR ≡ 0x6322
+  pub scaling-offset : indexAt SCALING-OFFSET ≡ 0x6323
+  pub zero-correction : indexAt ZERO-CORRECTION ≡ 0x6324
+  pub ramp-type : indexAt RAMP-TYPE ≡ 0x6330
+  pub acceleration : map indexAt (ACCELERATION ∷ ACCELERATION-POSITIVE ∷ ACCELERATION-NEGATIVE ∷ []) ≡ 0x6331 ∷ 0x6332 ∷ 0x6333 ∷ []
+  pub deceleration : map indexAt (DECELERATION ∷ DECELERATION-POSITIVE ∷ DECELERATION-NEGATIVE ∷ []) ≡ 0x6334 ∷ 0x6335 ∷ 0x6336 ∷ []
+  pub dead-band-type : indexAt DEAD-BAND-TYPE ≡ 0x6342
+  pub a-side : indexAt A-SIDE ≡ 0x6343
+  pub b-side : indexAt B-SIDE ≡ 0x6344
+  pub threshold : indexAt THRESHOLD ≡ 0x6345
+  -- how many there are, and how many are stored
+  pub rows : ROWS ≡ 22
+  pub settings : SETTINGS ≡ 17
+  -- the tags 1 to 17
+  pub tags :
+      map indexOfTag (1 ∷ 2 ∷ 3 ∷ 4 ∷ 5 ∷ 6 ∷ 7 ∷ 8 ∷ 9 ∷ 10 ∷ 11 ∷ 12 ∷ 13 ∷ 14 ∷ 15 ∷ 16 ∷ 17 ∷ [])
+      ≡ 0x6314 ∷ 0x6320 ∷ 0x6321 ∷ 0x6322 ∷ 0x6323 ∷ 0x6324 ∷ 0x6330 ∷ 0x6331 ∷ 0x6332 ∷ 0x6333 ∷ 0x6334 ∷ 0x6335 ∷ 0x6336
+      ∷ 0x6342 ∷ 0x6343 ∷ 0x6344 ∷ 0x6345 ∷ []
+  -- a time's unit, and its prefix -3 as a byte
+  pub entries-of-a-time : (SECONDS ≡ 0x03) × (MILLI ≡ 0xFD)
+  -- the states by their numbers, and the status word of each
+  pub states : DISABLED ∷ HOLD ∷ ACTIVE ∷ FAULT ∷ [] ≡ 0 ∷ 1 ∷ 2 ∷ 3 ∷ []
+  pub status-words : STATUS-DISABLED ∷ STATUS-HOLD ∷ STATUS-ACTIVE ∷ STATUS-FAULT ∷ TARGET-MET ∷ [] ≡ 8 ∷ 9 ∷ 15 ∷ 0 ∷ 256 ∷ []
+  -- the aborts in their order
+  pub aborts :
+      UNKNOWN-COMMAND ∷ NO-OBJECT ∷ NO-SUB-INDEX ∷ READ-ONLY-ENTRY ∷ WRONG-SIZE ∷ TOO-HIGH ∷ TOO-LOW ∷ NO-SUCH-CHOICE ∷ LIMITS-CROSSED ∷ LOCKED-NOW ∷ []
+      ≡ 0x05040001 ∷ 0x06020000 ∷ 0x06090011 ∷ 0x06010002 ∷ 0x06070010 ∷ 0x06090031 ∷ 0x06090032 ∷ 0x06090030 ∷ 0x06090036 ∷ 0x08000022 ∷ []
+  -- the numbers handed back
+  pub numbers :
+      UNSOUND ∷ WRONG-LENGTH ∷ NO-ROOM ∷ NO-REPLY-DUE ∷ NO-FAULT ∷ NO-IMAGE-ROOM ∷ NOT-FULL ∷ BAD-VALUE ∷ NOT-DISABLED ∷ []
+      ≡ 1 ∷ 2 ∷ 3 ∷ 4 ∷ 5 ∷ 6 ∷ 7 ∷ 8 ∷ 9 ∷ []
+  pub search : FIELD-CUT ∷ NOT-FOUND ∷ [] ≡ 7 ∷ 10 ∷ []
