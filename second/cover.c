@@ -1,10 +1,11 @@
 /* `second cover`: what of document 01 an event file has reached. */
 #include <inttypes.h>
+#include <stdarg.h>
 #include <stdio.h>
 #include <string.h>
 
+#include "cover.h"
 #include "modes.h"
-#include "run.h"
 
 /* ---- The items ---- */
 
@@ -14,7 +15,7 @@ static const enum abort_code abort_codes[] = {
 };
 enum { ABORT_CODES = sizeof abort_codes / sizeof abort_codes[0] };
 
-static const char *const state_names[STATES] = {"DISABLED", "HOLD", "ACTIVE", "FAULT"};
+const char *const state_names[STATES] = {"DISABLED", "HOLD", "ACTIVE", "FAULT"};
 
 /* One tick's way. A crossing is from one side of zero to the other: at once in
  * type 0, by the halt at zero in types 1 to 3. */
@@ -53,13 +54,6 @@ static struct {
 } counts;
 
 /* ---- What one event did ---- */
-
-struct seen {
-    const struct record *record;
-    const struct outcome *outcome;
-    const struct device *before;
-    const struct device *after;
-};
 
 /* FAULT with 8 stored: how many of the words 8, 0, 8 have come in a row. */
 static int reset_steps;
@@ -194,16 +188,24 @@ static void count_sdo(const struct seen *seen)
     count_exchanges(seen);
 }
 
+static bool hands_number(uint8_t kind)
+{
+    return kind < EVENT_KINDS && kind != EVENT_FRESH && kind != EVENT_PATCH;
+}
+
 static void count_event(const struct seen *seen)
 {
     const struct record *record = seen->record;
-    if (record->kind != EVENT_FRESH && record->kind < EVENT_KINDS)
+    if (hands_number(record->kind))
         counts.number[seen->outcome->number]++;
+    count_image_event(seen);
+    count_refusals(seen);
     switch (record->kind) {
     case EVENT_FRESH:
         reset_steps = 0;
         break;
     case EVENT_SDO:
+    case EVENT_WIDE:
         count_sdo(seen);
         break;
     case EVENT_CONTROL:
@@ -229,12 +231,17 @@ static void count_event(const struct seen *seen)
 
 /* ---- The list ---- */
 
-enum { NAME_ROOM = 64 };
 static bool list_missing; /* the second pass: only the items never met */
 static bool any_missing;
 
-static void list_item(const char *name, uint64_t count)
+void list_item(uint64_t count, const char *format, ...)
 {
+    enum { NAME_ROOM = 100 };
+    char name[NAME_ROOM];
+    va_list arguments;
+    va_start(arguments, format);
+    vsnprintf(name, sizeof name, format, arguments);
+    va_end(arguments);
     if (!list_missing)
         printf("%s %" PRIu64 "\n", name, count);
     else if (count == 0)
@@ -242,31 +249,12 @@ static void list_item(const char *name, uint64_t count)
     any_missing = any_missing || count == 0;
 }
 
-static void list_pair(const char *group, const char *one, const char *other, uint64_t count)
-{
-    char name[NAME_ROOM];
-    snprintf(name, sizeof name, "%s-%s-%s", group, one, other);
-    list_item(name, count);
-}
-
-static void list_numbered(const char *group, size_t type, const char *other, uint64_t count)
-{
-    char name[NAME_ROOM];
-    snprintf(name, sizeof name, "%s-%d-%s", group, (int)type, other);
-    list_item(name, count);
-}
-
 static void list_answers(void)
 {
-    char name[NAME_ROOM];
-    for (size_t i = 0; i < ABORT_CODES; i++) {
-        snprintf(name, sizeof name, "abort-%08" PRIX32, (uint32_t)abort_codes[i]);
-        list_item(name, counts.abort[i]);
-    }
-    for (size_t i = 0; i < NUMBERS; i++) {
-        snprintf(name, sizeof name, "number-%d", (int)i);
-        list_item(name, counts.number[i]);
-    }
+    for (size_t i = 0; i < ABORT_CODES; i++)
+        list_item(counts.abort[i], "abort-%08" PRIX32, (uint32_t)abort_codes[i]);
+    for (size_t i = 0; i < NUMBERS; i++)
+        list_item(counts.number[i], "number-%d", (int)i);
 }
 
 static void list_transitions(void)
@@ -278,40 +266,34 @@ static void list_transitions(void)
     for (size_t i = 0; i < sizeof moves / sizeof moves[0]; i++) {
         uint8_t from = moves[i][0];
         uint8_t to = moves[i][1];
-        list_pair("move", state_names[from], state_names[to], counts.move[from][to]);
+        list_item(counts.move[from][to], "move-%s-%s", state_names[from], state_names[to]);
     }
     for (size_t state = 0; state < STATES; state++)
-        list_pair("fault", state_names[state], "FAULT", counts.fault[state]);
-    list_item("held-reset-stays-FAULT", counts.held_reset);
+        list_item(counts.fault[state], "fault-%s-FAULT", state_names[state]);
+    list_item(counts.held_reset, "held-reset-stays-FAULT");
     for (size_t state = 0; state < STATES; state++)
-        list_pair("word", "moves-nothing-in", state_names[state], counts.move[state][state]);
+        list_item(counts.move[state][state], "word-moves-nothing-in-%s", state_names[state]);
 }
 
 static void list_ramps_and_bands(void)
 {
     for (size_t type = 0; type < RAMP_TYPES; type++)
         for (size_t way = 0; way < WAYS; way++)
-            list_numbered("ramp", type, way_names[way], counts.ramp[type][way]);
+            list_item(counts.ramp[type][way], "ramp-%d-%s", (int)type, way_names[way]);
     for (size_t type = 0; type < DEAD_BAND_TYPES; type++)
         for (size_t band = 0; band < BANDS; band++)
-            list_numbered("dead-band", type, band_names[band], counts.band[type][band]);
+            list_item(counts.band[type][band], "dead-band-%d-%s", (int)type, band_names[band]);
 }
 
 static void list_entries(void)
 {
-    char name[NAME_ROOM];
-    for (size_t row = 0; row < OBJECTS; row++) {
-        if (objects[row].access == READ_ONLY)
-            continue;
-        snprintf(name, sizeof name, "write-%04X", (unsigned)objects[row].index);
-        list_item(name, counts.write[row]);
-    }
     for (size_t row = 0; row < OBJECTS; row++)
-        for (size_t sub = 0; sub <= object_top_sub(&objects[row]); sub++) {
-            snprintf(name, sizeof name, "read-%04X-sub-%d", (unsigned)objects[row].index,
-                     (int)sub);
-            list_item(name, counts.read[row][sub]);
-        }
+        if (objects[row].access == READ_WRITE)
+            list_item(counts.write[row], "write-%04X", (unsigned)objects[row].index);
+    for (size_t row = 0; row < OBJECTS; row++)
+        for (size_t sub = 0; sub <= object_top_sub(&objects[row]); sub++)
+            list_item(counts.read[row][sub], "read-%04X-sub-%d", (unsigned)objects[row].index,
+                      (int)sub);
 }
 
 static void list_all(void)
@@ -320,11 +302,10 @@ static void list_all(void)
     list_transitions();
     list_ramps_and_bands();
     list_entries();
-    for (size_t i = 0; i < EXAMPLES; i++) {
-        char name[NAME_ROOM];
-        snprintf(name, sizeof name, "example-%s", example_names[i]);
-        list_item(name, counts.example[i]);
-    }
+    for (size_t i = 0; i < EXAMPLES; i++)
+        list_item(counts.example[i], "example-%s", example_names[i]);
+    list_image_items();
+    list_refusal_items();
 }
 
 int mode_cover(void)
@@ -332,9 +313,9 @@ int mode_cover(void)
     struct run run = run_begin();
     struct record record;
     while (record_read(stdin, &record) == RECORD_SIZE) {
-        struct device before = run.device;
+        struct run before = run;
         struct outcome outcome = run_event(&run, &record);
-        struct seen seen = {&record, &outcome, &before, &run.device};
+        struct seen seen = {&record, &outcome, &before.device, &run.device, before.image};
         count_event(&seen);
     }
     list_all();

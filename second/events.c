@@ -1,268 +1,10 @@
-/* `second events`: an event file made from a seed, weighted to edges.
- *
- * The maker runs the model along, so that it can steer to the states worth
- * meeting and knows the ticks to go. Every draw of a random number stands in a
- * statement of its own: C leaves the order within an expression open, and the
- * file shall be the same on every machine. */
-#include <stdio.h>
-
+/* `second events`: an event file made from a seed, weighted to edges. */
+#include "maker.h"
 #include "modes.h"
-#include "run.h"
-
-struct maker {
-    uint64_t random;
-    uint64_t left; /* events still to be written; none is written at 0 */
-    uint32_t swept_entries;
-    uint8_t swept_command;
-    struct run run;
-};
-
-/* ---- Chance ---- */
-
-/* splitmix64 */
-static uint64_t draw(struct maker *m)
-{
-    m->random += 0x9e3779b97f4a7c15u;
-    uint64_t z = m->random;
-    z = (z ^ (z >> 30)) * 0xbf58476d1ce4e5b9u;
-    z = (z ^ (z >> 27)) * 0x94d049bb133111ebu;
-    return z ^ (z >> 31);
-}
-
-static uint32_t below(struct maker *m, uint32_t bound)
-{
-    return (uint32_t)(draw(m) % bound);
-}
-
-static int64_t between(struct maker *m, int64_t low, int64_t high)
-{
-    return low + (int64_t)(draw(m) % (uint64_t)(high - low + 1));
-}
-
-static bool one_in(struct maker *m, uint32_t bound)
-{
-    return below(m, bound) == 0;
-}
-
-#define PICK(m, table) ((table)[below((m), sizeof(table) / sizeof((table)[0]))])
-
-/* ---- Values at the edges ---- */
-
-static uint32_t pick_time(struct maker *m)
-{
-    static const uint32_t times[] = {0, 1, 2, 3, 512, 1000, 1024, 65536, 3599999, 3600000};
-    switch (below(m, 4)) {
-    case 0:
-        return below(m, 3000);
-    case 1:
-        return below(m, 3600001);
-    default:
-        return PICK(m, times);
-    }
-}
-
-static int64_t pick_ir(struct maker *m)
-{
-    static const int16_t places[] = {0,     1,      -1,    2,      100,   -50,   16384,
-                                     16383, -16384, -16383, 16385, -16385, 32767, -32768};
-    switch (below(m, 4)) {
-    case 0:
-        return between(m, -100, 100);
-    case 1:
-        return between(m, -FULL_STROKE, FULL_STROKE);
-    case 2:
-        return between(m, INT16_MIN, INT16_MAX);
-    default:
-        return PICK(m, places);
-    }
-}
-
-/* Off by one on both ends of the range, and around zero. */
-static int64_t pick_edge(struct maker *m, const struct object *object)
-{
-    switch (below(m, 12)) {
-    case 0:
-        return object->low - 1;
-    case 1:
-        return object->low;
-    case 2:
-        return object->low + 1;
-    case 3:
-        return object->high - 1;
-    case 4:
-        return object->high;
-    case 5:
-        return object->high + 1;
-    case 6:
-        return 0;
-    case 7:
-        return -1;
-    case 8:
-        return object->fresh;
-    case 9:
-        return between(m, INT16_MIN, UINT32_MAX);
-    default:
-        return between(m, object->low, object->high);
-    }
-}
-
-static const struct object *pick_object(struct maker *m)
-{
-    return &objects[below(m, OBJECTS)];
-}
-
-/* ---- Events ---- */
-
-/* Members that an event does not use hold anything, since they are ignored. */
-static struct record make(struct maker *m, uint8_t kind)
-{
-    struct record record = {.kind = kind};
-    record.small = (uint8_t)draw(m);
-    record.word = (uint16_t)draw(m);
-    record.number = (uint32_t)draw(m);
-    for (size_t i = 0; i < SDO_SIZE; i++)
-        record.bytes[i] = (uint8_t)draw(m);
-    return record;
-}
-
-static void emit(struct maker *m, const struct record *record)
-{
-    if (m->left == 0)
-        return;
-    m->left--;
-    record_write(stdout, record);
-    run_event(&m->run, record);
-}
-
-static void emit_plain(struct maker *m, uint8_t kind)
-{
-    struct record record = make(m, kind);
-    emit(m, &record);
-}
-
-static void emit_word(struct maker *m, uint8_t kind, uint16_t word)
-{
-    struct record record = make(m, kind);
-    record.word = word;
-    emit(m, &record);
-}
-
-static void set_request(struct record *record, uint8_t command, uint16_t index, uint8_t sub,
-                        uint32_t data)
-{
-    record->bytes[0] = command;
-    record->bytes[1] = (uint8_t)index;
-    record->bytes[2] = (uint8_t)(index >> 8);
-    record->bytes[3] = sub;
-    for (size_t i = 0; i < 4; i++)
-        record->bytes[4 + i] = (uint8_t)(data >> (8 * i));
-}
-
-/* A whole request with room enough; lengths beyond eight mean eight. */
-static void emit_sdo(struct maker *m, uint8_t command, uint16_t index, uint8_t sub, uint32_t data)
-{
-    static const uint16_t rooms[] = {8, 8, 8, 8, 8, 9, 11, 12, 13, 65535};
-    struct record record = make(m, EVENT_SDO);
-    record.small = one_in(m, 8) ? (uint8_t)between(m, SDO_SIZE, UINT8_MAX) : SDO_SIZE;
-    record.word = PICK(m, rooms);
-    set_request(&record, command, index, sub, data);
-    emit(m, &record);
-}
-
-static uint8_t write_command(size_t size)
-{
-    static const uint8_t commands[] = {0, WRITE_1, WRITE_2, WRITE_3, WRITE_4};
-    return commands[size];
-}
-
-static uint8_t value_sub(const struct object *object)
-{
-    return object->form == VARIABLE ? 0 : 1;
-}
-
-/* A write of the right size; the data bytes beyond it hold anything at times. */
-static void emit_write(struct maker *m, const struct object *object, int64_t value)
-{
-    size_t size = object_size(object);
-    uint32_t data = (uint32_t)value;
-    if (size < 4 && one_in(m, 3)) {
-        uint32_t kept = (UINT32_C(1) << (8 * size)) - 1;
-        data = (data & kept) | ((uint32_t)draw(m) & ~kept);
-    }
-    emit_sdo(m, write_command(size), object->index, value_sub(object), data);
-}
-
-static void emit_setting(struct maker *m, enum setting place, int64_t value)
-{
-    emit_write(m, object_of_setting(place), value);
-}
-
-/* A control word, by its call or by SDO; bits 4 to 15 hold anything at times. */
-static void emit_control(struct maker *m, uint16_t bits)
-{
-    uint16_t word = bits;
-    if (one_in(m, 2))
-        word = (uint16_t)(bits | (draw(m) & 0xfff0u));
-    if (one_in(m, 3))
-        emit_write(m, object_find(0x6040), word);
-    else
-        emit_word(m, EVENT_CONTROL, word);
-}
-
-static void emit_fault(struct maker *m)
-{
-    static const uint16_t codes[] = {0, 0, 1, 255, 256, 0x8000, 0xffff};
-    uint16_t code = PICK(m, codes);
-    if (one_in(m, 3))
-        code = (uint16_t)draw(m);
-    emit_word(m, EVENT_FAULT, code);
-}
-
-/* ---- Steering ---- */
-
-static bool moving_state(const struct maker *m)
-{
-    return m->run.device.state == HOLD || m->run.device.state == ACTIVE;
-}
-
-static void steer_to_disabled(struct maker *m)
-{
-    if (m->run.device.state == FAULT) {
-        emit_control(m, 0);
-        emit_control(m, 8);
-    } else if (m->run.device.state != DISABLED) {
-        emit_control(m, 0);
-    }
-}
-
-static void steer_to_hold(struct maker *m)
-{
-    static const uint16_t to_hold[] = {1, 3, 5, 9, 11, 13};
-    if (m->run.device.state == FAULT)
-        steer_to_disabled(m);
-    if (m->run.device.state != HOLD) {
-        uint16_t word = PICK(m, to_hold);
-        emit_control(m, word);
-    }
-}
-
-static uint32_t ticks_left(const struct device *device)
-{
-    return (uint32_t)device_query(device, QUERY_TICKS_TO_GO).value;
-}
-
-/* Ticks to zero: those to go of a copy whose target is zero. */
-static uint32_t ticks_left_to_zero(struct device copy)
-{
-    copy.setting[SCALING_FACTOR] = 0;
-    copy.setting[SCALING_OFFSET] = 0;
-    copy.setting[ZERO_CORRECTION] = 0;
-    return ticks_left(&copy);
-}
 
 /* ---- Scenes: SDO ---- */
 
-static void scene_write_edge(struct maker *m)
+void scene_write_edge(struct maker *m)
 {
     const struct object *object = pick_object(m);
     int64_t value = pick_edge(m, object);
@@ -274,7 +16,7 @@ static void scene_sweep_entries(struct maker *m)
 {
     static const uint8_t commands[] = {READ, WRITE_1, WRITE_2, WRITE_3, WRITE_4};
     enum { COMMANDS = sizeof commands, SUBS = 5 };
-    uint32_t turn = m->swept_entries++;
+    uint32_t turn = next_turn(m, SWEEP_ENTRIES);
     const struct object *object = &objects[turn % OBJECTS];
     uint8_t sub = (uint8_t)(turn / OBJECTS % SUBS);
     uint8_t command = commands[turn / (OBJECTS * SUBS) % COMMANDS];
@@ -306,11 +48,14 @@ static void scene_read_command(struct maker *m)
     emit_sdo(m, READ, 0x6310, 1, 0);
 }
 
-/* Every command byte in turn. */
+/* In turn every command byte, and between them those next to the ones in use. */
 static void scene_any_command(struct maker *m)
 {
+    static const uint8_t near[] = {0x7f, 0x80, 0x9f, 0xa0, 0x3f, 0x41, 0x22, 0x24, 0x26,
+                                   0x28, 0x2a, 0x2c, 0x2e, 0x30, 0x20, 0x60};
     const struct object *object = pick_object(m);
-    uint8_t command = m->swept_command++;
+    uint32_t turn = next_turn(m, SWEEP_COMMANDS);
+    uint8_t command = turn % 2 == 0 ? near[turn / 2 % sizeof near] : (uint8_t)(turn / 2);
     uint8_t sub = (uint8_t)below(m, 5);
     uint32_t data = (uint32_t)draw(m);
     emit_sdo(m, command, object->index, sub, data);
@@ -330,24 +75,6 @@ static void scene_unknown_index(struct maker *m)
     emit_sdo(m, command, near, sub, data);
 }
 
-/* Requests cut short and rooms too small, both at once too. */
-static void scene_sdo_refused(struct maker *m)
-{
-    static const uint8_t firsts[] = {READ, WRITE_2, 0x80, 0x9f, 0x7f, 0xa0};
-    struct record record = make(m, EVENT_SDO);
-    uint8_t first = PICK(m, firsts);
-    uint16_t index = pick_object(m)->index;
-    uint8_t sub = (uint8_t)below(m, 2);
-    record.small = (uint8_t)between(m, 6, 9);
-    if (one_in(m, 4))
-        record.small = (uint8_t)below(m, 9);
-    record.word = (uint16_t)between(m, 6, 9);
-    if (one_in(m, 4))
-        record.word = (uint16_t)below(m, 14);
-    set_request(&record, first, index, sub, 7);
-    emit(m, &record);
-}
-
 /* Limits at, above and below one another. */
 static void scene_limits(struct maker *m)
 {
@@ -358,11 +85,33 @@ static void scene_limits(struct maker *m)
     emit_setting(m, upper ? UPPER_LIMIT : LOWER_LIMIT, other + offset);
 }
 
+/* In turn: each setting and the set point at both ends of its range. The other
+ * limit makes way first. */
+static void scene_range_end(struct maker *m)
+{
+    enum { ENDS = 2 };
+    uint32_t turn = next_turn(m, SWEEP_RANGE_ENDS);
+    uint32_t place = turn / ENDS % (SETTINGS + 1);
+    bool top = turn % ENDS == 0;
+    const struct object *object =
+        place == SETTINGS ? object_find(0x6300) : object_of_setting(place);
+    int64_t end = top ? object->high : object->low;
+    if (object->locked && m->run.device.state == ACTIVE)
+        steer_to_hold(m);
+    if (place == UPPER_LIMIT && !top)
+        emit_setting(m, LOWER_LIMIT, end);
+    if (place == LOWER_LIMIT && top)
+        emit_setting(m, UPPER_LIMIT, end);
+    emit_write(m, object, end);
+}
+
 /* ---- Scenes: states ---- */
 
 static void scene_control(struct maker *m)
 {
     uint16_t bits = (uint16_t)below(m, 16);
+    if (m->run.device.state == ACTIVE && one_in(m, 4))
+        bits |= 7; /* it stays */
     emit_control(m, bits);
 }
 
@@ -512,7 +261,8 @@ static void scene_target(struct maker *m)
 
 static void ramp_settings(struct maker *m)
 {
-    int64_t type = below(m, 4);
+    enum { RAMP_TYPES = 4 };
+    int64_t type = next_turn(m, SWEEP_RAMP_TYPES) % RAMP_TYPES;
     emit_setting(m, RAMP_TYPE, type);
     for (size_t place = ACCELERATION_ONE; place <= DECELERATION_NEGATIVE; place++) {
         uint32_t time = pick_time(m);
@@ -577,117 +327,11 @@ static void scene_dead_band(struct maker *m)
     }
 }
 
-/* ---- Scenes: image ---- */
-
-static uint16_t field_start(size_t place)
-{
-    size_t start = 0;
-    for (size_t before = 0; before < place; before++)
-        start += FIELD_HEAD + object_size(object_of_setting(before));
-    return (uint16_t)start;
-}
-
-static void scene_store(struct maker *m)
-{
-    static const uint16_t rooms[] = {0, 1, 96, 97, 98, 99, 100, 101, 65535};
-    uint16_t room = PICK(m, rooms);
-    emit_word(m, EVENT_STORE, room);
-}
-
-/* A byte of the image: of a tag, a length, or the top of a value. */
-static uint16_t pick_image_place(struct maker *m)
-{
-    size_t place = below(m, SETTINGS);
-    size_t size = object_size(object_of_setting(place));
-    uint16_t start = field_start(place);
-    switch (below(m, 4)) {
-    case 0:
-        return (uint16_t)(start + below(m, FIELD_HEAD));
-    case 1:
-        return (uint16_t)draw(m);
-    default:
-        return (uint16_t)(start + FIELD_HEAD + size - 1);
-    }
-}
-
-static void emit_load(struct maker *m)
-{
-    static const uint8_t low_bytes[] = {0, 1, 2, 3, 4, 0x10, 0x40, 0x7f, 0x80, 0xff};
-    static const uint16_t cuts[] = {0, 1, 95, 96, 97, 98, 65535};
-    struct record record = make(m, EVENT_LOAD);
-    record.small = (uint8_t)below(m, 5);
-    if (record.small == LOAD_CUT) {
-        record.word = PICK(m, cuts);
-        if (one_in(m, 2))
-            record.word = (uint16_t)below(m, IMAGE_SIZE);
-    } else {
-        record.word = pick_image_place(m);
-    }
-    uint8_t low_byte = PICK(m, low_bytes);
-    record.number = (record.number & ~UINT32_C(0xff)) | low_byte;
-    emit(m, &record);
-}
-
-static void scene_load(struct maker *m)
-{
-    uint32_t times = 1 + below(m, 3);
-    if (one_in(m, 3))
-        emit_word(m, EVENT_STORE, IMAGE_SIZE);
-    if (one_in(m, 2))
-        scene_write_edge(m);
-    if (!one_in(m, 3))
-        steer_to_disabled(m);
-    for (uint32_t i = 0; i < times; i++)
-        emit_load(m);
-}
-
-/* Tags 0 to 20 in the image cut at every kind of place. */
-static void scene_find(struct maker *m)
-{
-    struct record record = make(m, EVENT_FIND);
-    size_t place = below(m, SETTINGS);
-    uint16_t start = field_start(place);
-    uint16_t end = (uint16_t)(start + FIELD_HEAD + object_size(object_of_setting(place)));
-    record.small = (uint8_t)below(m, 21);
-    switch (below(m, 5)) {
-    case 0:
-        record.word = (uint16_t)between(m, start, end);
-        break;
-    case 1: /* around the end of the very field */
-        record.small = (uint8_t)(place + 1);
-        record.word = (uint16_t)between(m, end - 1, end);
-        break;
-    case 2:
-        record.word = start;
-        break;
-    case 3:
-        record.word = (uint16_t)between(m, IMAGE_SIZE - 1, IMAGE_SIZE + 1);
-        break;
-    default:
-        if (one_in(m, 2)) /* else both hold anything */
-            break;
-        record.small = (uint8_t)draw(m);
-    }
-    emit(m, &record);
-}
-
 /* ---- Scenes: the rest ---- */
 
 static void scene_query(struct maker *m)
 {
     emit_plain(m, EVENT_QUERY);
-}
-
-static void scene_unsound(struct maker *m)
-{
-    struct record record = make(m, EVENT_UNSOUND);
-    record.small = (uint8_t)below(m, UNSOUND_KINDS + 1);
-    uint16_t index = pick_object(m)->index;
-    if (one_in(m, 2))
-        set_request(&record, READ, index, 0, 0);
-    if (one_in(m, 2))
-        record.word = (uint16_t)below(m, SETTINGS);
-    emit(m, &record);
 }
 
 static void scene_unknown_kind(struct maker *m)
@@ -712,6 +356,7 @@ static const struct {
     {30, scene_unknown_index},
     {30, scene_sdo_refused},
     {20, scene_limits},
+    {50, scene_range_end},
     /* states */
     {30, scene_control},
     {10, scene_fault},
@@ -723,16 +368,23 @@ static const struct {
     {20, scene_ticks},
     {40, scene_tick},
     {40, scene_target},
-    {40, scene_ramp},
+    {55, scene_ramp},
     {10, scene_locked},
     {8, scene_dead_band},
     /* image */
     {15, scene_store},
     {25, scene_load},
-    {50, scene_find},
+    {20, scene_append},
+    {24, scene_loaded_value},
+    {42, scene_damage},
+    {30, scene_find},
+    /* refusals; a scene_broken is nine events and more */
+    {60, scene_wide},
+    {10, scene_no_fault},
+    {12, scene_unsound},
+    {20, scene_broken},
     /* the rest */
     {20, scene_query},
-    {30, scene_unsound},
     {5, scene_unknown_kind},
 };
 enum { SCENES = sizeof scenes / sizeof scenes[0] };
@@ -747,19 +399,6 @@ static void play_scene(struct maker *m)
     while (chance >= scenes[scene].weight)
         chance -= scenes[scene++].weight;
     scenes[scene].play(m);
-}
-
-/* The image is all 0 only until the first store: fields of tag 0 and no bytes. */
-static void play_zero_image(struct maker *m)
-{
-    static const uint16_t cuts[] = {0, 1, 2, 3, 4, 96, 97};
-    for (size_t i = 0; i < sizeof cuts / sizeof cuts[0]; i++) {
-        struct record record = make(m, EVENT_FIND);
-        record.small = (uint8_t)below(m, 2);
-        record.word = cuts[i];
-        emit(m, &record);
-    }
-    emit_load(m);
 }
 
 int mode_events(uint64_t seed, uint64_t count)

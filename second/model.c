@@ -118,7 +118,7 @@ static void number_to_bytes(uint32_t number, uint8_t *bytes, size_t size)
 }
 
 /* The bytes of a value, read in the type of its object. */
-static int64_t typed_value(const struct object *object, const uint8_t *bytes)
+int64_t object_value(const struct object *object, const uint8_t *bytes)
 {
     int64_t value = bytes_to_number(bytes, object_size(object));
     if (object->type == I8 && value > INT8_MAX)
@@ -396,7 +396,7 @@ static void take_value(struct device *device, const struct object *object, int64
         accept_control_word(device, (uint16_t)value);
         break;
     case SET_POINT:
-        device->set_point = (int16_t)value;
+        device->set_point = (int32_t)value;
         break;
     default:
         device->setting[object->value] = value;
@@ -472,7 +472,7 @@ static enum abort_code write_entry(struct device *device, const struct object *o
         return ABORT_READ_ONLY;
     if (size != object_size(object))
         return ABORT_SIZE;
-    int64_t value = typed_value(object, data);
+    int64_t value = object_value(object, data);
     enum abort_code code = range_abort(object, value);
     if (code != NO_ABORT)
         return code;
@@ -583,7 +583,7 @@ enum number device_load(struct device *device, const uint8_t *image, size_t size
     const uint8_t *field = image;
     for (size_t place = 0; place < SETTINGS; place++) {
         const struct object *object = object_of_setting(place);
-        loaded[place] = typed_value(object, &field[FIELD_HEAD]);
+        loaded[place] = object_value(object, &field[FIELD_HEAD]);
         field += FIELD_HEAD + object_size(object);
     }
     if (!settings_sound(loaded))
@@ -614,6 +614,8 @@ struct part image_find(uint8_t tag, const uint8_t *image, size_t size)
 bool device_sound(const struct device *device)
 {
     if (device->state >= STATES || !settings_sound(device->setting))
+        return false;
+    if (device->set_point < INT16_MIN || device->set_point > INT16_MAX)
         return false;
     if (device->position < -FULL_POSITION || device->position > FULL_POSITION)
         return false;

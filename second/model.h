@@ -38,12 +38,13 @@ enum setting {
 };
 
 /* Settings are 64 bits wide, so that one type holds I8, I16 and U32 alike and
- * a value outside its range can be written down and found unsound. */
+ * a value outside its range can be written down and found unsound. The set
+ * point is wider than its I16 for the same reason. */
 struct device {
     uint8_t state;
     uint16_t control_word;
     uint16_t error_code;
-    int16_t set_point;
+    int32_t set_point;
     int32_t position;
     int64_t setting[SETTINGS];
 };
@@ -91,6 +92,7 @@ const struct object *object_find(uint16_t index);
 const struct object *object_of_setting(size_t place);
 size_t object_size(const struct object *object);   /* of its value, in bytes */
 uint8_t object_top_sub(const struct object *object);
+int64_t object_value(const struct object *object, const uint8_t *bytes); /* by its type */
 
 /* SDO. */
 enum { SDO_SIZE = 8 };

@@ -3,7 +3,7 @@
 
 #include <string.h>
 
-static size_t at_most(size_t value, size_t most)
+size_t at_most(size_t value, size_t most)
 {
     return value > most ? most : value;
 }
@@ -49,13 +49,27 @@ static void fill_room(struct outcome *outcome, size_t room)
     memset(outcome->bytes, ROOM_FILL, room);
 }
 
-static void run_sdo(struct run *run, const struct record *record, struct outcome *outcome)
+static void run_request(struct run *run, const struct record *record, const uint8_t *request,
+                        size_t request_size, struct outcome *outcome)
 {
-    size_t request_size = at_most(record->small, SDO_SIZE);
     size_t room = at_most(record->word, SDO_ROOM_MOST);
     fill_room(outcome, room);
     outcome->number =
-        (uint8_t)device_sdo(&run->device, record->bytes, request_size, outcome->bytes, room);
+        (uint8_t)device_sdo(&run->device, request, request_size, outcome->bytes, room);
+}
+
+static void run_sdo(struct run *run, const struct record *record, struct outcome *outcome)
+{
+    run_request(run, record, record->bytes, at_most(record->small, SDO_SIZE), outcome);
+}
+
+static void run_wide(struct run *run, const struct record *record, struct outcome *outcome)
+{
+    uint8_t request[WIDE_MOST];
+    memcpy(request, record->bytes, SDO_SIZE);
+    for (size_t i = SDO_SIZE; i < WIDE_MOST; i++)
+        request[i] = (uint8_t)(record->number >> (8 * (i - SDO_SIZE)));
+    run_request(run, record, request, at_most(record->small, WIDE_MOST), outcome);
 }
 
 static void run_store(struct run *run, const struct record *record, struct outcome *outcome)
@@ -67,25 +81,40 @@ static void run_store(struct run *run, const struct record *record, struct outco
         memcpy(run->image, outcome->bytes, IMAGE_SIZE);
 }
 
+/* As many of the eight bytes as there is image left. */
+static void run_patch(struct run *run, const struct record *record, struct outcome *outcome)
+{
+    outcome->place = record->word % IMAGE_SIZE;
+    size_t count = at_most(SDO_SIZE, IMAGE_SIZE - outcome->place);
+    memcpy(&run->image[outcome->place], record->bytes, count);
+}
+
+static void add_bytes(struct load *load, size_t count, uint8_t byte)
+{
+    memset(&load->bytes[load->size], byte, count);
+    load->size += count;
+}
+
+struct load load_of(const uint8_t *image, const struct record *record)
+{
+    struct load load = {.size = IMAGE_SIZE};
+    uint8_t byte = (uint8_t)record->number;
+    memcpy(load.bytes, image, IMAGE_SIZE);
+    if (record->kind == EVENT_APPEND)
+        add_bytes(&load, record->small, byte);
+    else if (record->small == LOAD_CUT)
+        load.size = at_most(record->word, IMAGE_SIZE);
+    else if (record->small == LOAD_BYTE_REPLACED)
+        load.bytes[record->word % IMAGE_SIZE] = byte;
+    else if (record->small == LOAD_BYTE_MORE)
+        add_bytes(&load, 1, byte);
+    return load;
+}
+
 static void run_load(struct run *run, const struct record *record, struct outcome *outcome)
 {
-    uint8_t altered[IMAGE_SIZE + 1] = {0};
-    size_t size = IMAGE_SIZE;
-    memcpy(altered, run->image, IMAGE_SIZE);
-    switch (record->small) {
-    case LOAD_CUT:
-        size = at_most(record->word, IMAGE_SIZE);
-        break;
-    case LOAD_BYTE_REPLACED:
-        altered[record->word % IMAGE_SIZE] = (uint8_t)record->number;
-        break;
-    case LOAD_BYTE_MORE:
-        altered[size++] = (uint8_t)record->number;
-        break;
-    default:
-        break;
-    }
-    outcome->number = (uint8_t)device_load(&run->device, altered, size);
+    struct load load = load_of(run->image, record);
+    outcome->number = (uint8_t)device_load(&run->device, load.bytes, load.size);
 }
 
 static void run_find(const struct run *run, const struct record *record, struct outcome *outcome)
@@ -110,12 +139,16 @@ static void run_ticks(struct run *run, const struct record *record, struct outco
         outcome->number = (uint8_t)device_tick(&run->device);
 }
 
-/* ---- Unsound devices ---- */
+/* ---- Unsound and broken devices ---- */
+
+static bool is_still(const struct device *device)
+{
+    return device->state == DISABLED || device->state == FAULT;
+}
 
 static struct device unsound_device(struct device device, const struct record *record)
 {
     enum { BEYOND_STROKE = FULL_POSITION + 1, BELOW_EVERY_RANGE = -40000 };
-    bool idle = device.state == DISABLED || device.state == FAULT;
     switch (record->small) {
     case UNSOUND_ERROR_CODE:
         device.error_code = device.state == FAULT ? 0 : 1;
@@ -131,7 +164,7 @@ static struct device unsound_device(struct device device, const struct record *r
         device.setting[LOWER_LIMIT] = 0;
         break;
     case UNSOUND_POSITION_BY_STATE:
-        device.position = idle ? 1 : BEYOND_STROKE;
+        device.position = is_still(&device) ? 1 : BEYOND_STROKE;
         break;
     default:
         device.state = STATES;
@@ -139,38 +172,90 @@ static struct device unsound_device(struct device device, const struct record *r
     return device;
 }
 
+static struct device broken_device(struct device device, const struct record *record)
+{
+    enum { BELOW_STROKE = -FULL_POSITION - 1, NO_STATE = 255 };
+    size_t place = record->word % SETTINGS;
+    switch (record->small) {
+    case BROKEN_SETTING_ABOVE:
+        device.setting[place] = object_of_setting(place)->high + 1;
+        break;
+    case BROKEN_SETTING_BELOW:
+        device.setting[place] = object_of_setting(place)->low - 1;
+        break;
+    case BROKEN_SETTING_MOST:
+        device.setting[place] = INT64_MAX;
+        break;
+    case BROKEN_SETTING_LEAST:
+        device.setting[place] = INT64_MIN;
+        break;
+    case BROKEN_POSITION:
+        device.position = BELOW_STROKE;
+        break;
+    case BROKEN_POSITION_BY_STATE:
+        device.position = is_still(&device) ? -1 : BELOW_STROKE;
+        break;
+    case BROKEN_SET_POINT_ABOVE:
+        device.set_point = INT16_MAX + 1;
+        break;
+    case BROKEN_SET_POINT_BELOW:
+        device.set_point = INT16_MIN - 1;
+        break;
+    default:
+        device.state = NO_STATE;
+    }
+    return device;
+}
+
+/* The call that the record names; the room is for all 97 bytes of an image. */
+static enum number call_with(struct device *device, const struct record *record,
+                             const uint8_t *image, uint8_t *room)
+{
+    switch (record->number % CALLS) {
+    case CALL_SDO:
+        return device_sdo(device, record->bytes, SDO_SIZE, room, SDO_SIZE);
+    case CALL_CONTROL:
+        return device_control(device, record->word);
+    case CALL_FAULT:
+        return device_fault(device, record->word);
+    case CALL_TICK:
+        return device_tick(device);
+    case CALL_JUMP:
+        return device_jump(device, 1);
+    case CALL_STORE:
+        return device_store(device, room, IMAGE_SIZE);
+    case CALL_LOAD:
+        return device_load(device, image, IMAGE_SIZE);
+    default:
+        return device_query(device, QUERY_STATUS).number;
+    }
+}
+
+/* A call that hands no device back, or is lent no room, leaves both as they were. */
+static void run_call(const struct run *run, const struct record *record,
+                     const struct device *handed, struct outcome *outcome)
+{
+    struct device device = *handed;
+    uint8_t before[IMAGE_SIZE];
+    uint8_t room[IMAGE_SIZE];
+    memset(before, ROOM_FILL, IMAGE_SIZE);
+    memcpy(room, before, IMAGE_SIZE);
+    outcome->number = (uint8_t)call_with(&device, record, run->image, room);
+    outcome->same = device_equal(&device, handed);
+    outcome->kept = memcmp(room, before, IMAGE_SIZE) == 0;
+}
+
 static void run_unsound(const struct run *run, const struct record *record,
                         struct outcome *outcome)
 {
     struct device device = unsound_device(run->device, record);
-    uint8_t room[IMAGE_SIZE];
-    enum number number = DONE;
-    switch (record->number % CALLS) {
-    case CALL_SDO:
-        number = device_sdo(&device, record->bytes, SDO_SIZE, room, SDO_SIZE);
-        break;
-    case CALL_CONTROL:
-        number = device_control(&device, record->word);
-        break;
-    case CALL_FAULT:
-        number = device_fault(&device, record->word);
-        break;
-    case CALL_TICK:
-        number = device_tick(&device);
-        break;
-    case CALL_JUMP:
-        number = device_jump(&device, 1);
-        break;
-    case CALL_STORE:
-        number = device_store(&device, room, IMAGE_SIZE);
-        break;
-    case CALL_LOAD:
-        number = device_load(&device, run->image, IMAGE_SIZE);
-        break;
-    default:
-        number = device_query(&device, QUERY_STATUS).number;
-    }
-    outcome->number = (uint8_t)number;
+    run_call(run, record, &device, outcome);
+}
+
+static void run_broken(const struct run *run, const struct record *record, struct outcome *outcome)
+{
+    struct device device = broken_device(run->device, record);
+    run_call(run, record, &device, outcome);
 }
 
 /* ---- Which event ---- */
@@ -204,6 +289,7 @@ struct outcome run_event(struct run *run, const struct record *record)
         run_store(run, record, &outcome);
         break;
     case EVENT_LOAD:
+    case EVENT_APPEND:
         run_load(run, record, &outcome);
         break;
     case EVENT_FIND:
@@ -217,6 +303,15 @@ struct outcome run_event(struct run *run, const struct record *record)
         break;
     case EVENT_TICKS:
         run_ticks(run, record, &outcome);
+        break;
+    case EVENT_PATCH:
+        run_patch(run, record, &outcome);
+        break;
+    case EVENT_WIDE:
+        run_wide(run, record, &outcome);
+        break;
+    case EVENT_BROKEN:
+        run_broken(run, record, &outcome);
         break;
     default:
         if (record->kind < EVENT_KINDS)

@@ -21,13 +21,17 @@ enum event_kind {
     EVENT_QUERY,
     EVENT_UNSOUND,
     EVENT_TICKS,
+    EVENT_PATCH,
+    EVENT_WIDE,
+    EVENT_APPEND,
+    EVENT_BROKEN,
     EVENT_KINDS
 };
 
 /* What `small` of a load says. */
 enum load_kind { LOAD_AS_IT_IS, LOAD_CUT, LOAD_BYTE_REPLACED, LOAD_BYTE_MORE };
 
-/* What `small` of an unsound event says, and what its `number` says. */
+/* What `small` of an unsound event says. */
 enum unsound_kind {
     UNSOUND_STATE,
     UNSOUND_ERROR_CODE,
@@ -37,6 +41,22 @@ enum unsound_kind {
     UNSOUND_POSITION_BY_STATE,
     UNSOUND_KINDS
 };
+
+/* What `small` of a broken event says. */
+enum broken_kind {
+    BROKEN_SETTING_ABOVE, /* one above its range */
+    BROKEN_SETTING_BELOW,
+    BROKEN_SETTING_MOST, /* of 64 bits */
+    BROKEN_SETTING_LEAST,
+    BROKEN_POSITION,
+    BROKEN_POSITION_BY_STATE,
+    BROKEN_SET_POINT_ABOVE,
+    BROKEN_SET_POINT_BELOW,
+    BROKEN_STATE, /* every higher number too */
+    BROKEN_KINDS
+};
+
+/* What `number` of an unsound or broken event says. */
 enum unsound_call {
     CALL_SDO,
     CALL_CONTROL,
@@ -49,7 +69,13 @@ enum unsound_call {
     CALLS
 };
 
-enum { SDO_ROOM_MOST = 12, STORE_ROOM_MOST = 100, ROOM_FILL = 0xaa };
+enum {
+    SDO_ROOM_MOST = 12,
+    WIDE_MOST = 12,    /* bytes of a wide request */
+    APPEND_MOST = 255, /* bytes more of an appended load */
+    STORE_ROOM_MOST = 100,
+    ROOM_FILL = 0xaa
+};
 
 struct record {
     uint8_t kind;
@@ -64,16 +90,27 @@ struct run {
     uint8_t image[IMAGE_SIZE];
 };
 
+/* What a load or append event hands to the call. */
+struct load {
+    size_t size;
+    uint8_t bytes[IMAGE_SIZE + APPEND_MOST];
+};
+
 /* What an event gave; which members count depends on the kind. */
 struct outcome {
     uint8_t number;
-    size_t place;      /* of a find */
+    size_t place;      /* of a find or a patch */
     size_t byte_count; /* of the room, or of the found part */
     uint8_t bytes[STORE_ROOM_MOST];
     struct answer query[QUERIES];
+    bool same; /* of a broken device: handed back as it was */
+    bool kept; /* of a broken device: the room left as it was */
 };
 
+size_t at_most(size_t value, size_t most);
+
 struct run run_begin(void);
+struct load load_of(const uint8_t *image, const struct record *record);
 struct outcome run_event(struct run *run, const struct record *record);
 
 /* Reads one record; gives the number of bytes met, RECORD_SIZE for a whole one. */

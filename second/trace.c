@@ -8,6 +8,7 @@
 static const char *const event_name[EVENT_KINDS] = {
     "fresh", "sdo",  "control", "fault", "tick",    "jump",
     "store", "load", "find",    "query", "unsound", "ticks",
+    "patch", "wide", "append",  "broken",
 };
 
 static void print_bytes(const struct outcome *outcome)
@@ -34,7 +35,14 @@ static void print_result(const struct record *record, const struct outcome *outc
         printf(" %d %d", (int)outcome->number, (int)outcome->place);
         print_bytes(outcome);
         break;
-    default: /* only sdo and store have bytes */
+    case EVENT_PATCH:
+        printf(" %d", (int)outcome->place);
+        break;
+    case EVENT_BROKEN:
+        printf(" %d %s %s", (int)outcome->number, outcome->same ? "same" : "other",
+               outcome->kept ? "kept" : "written");
+        break;
+    default: /* only sdo, wide and store have bytes */
         printf(" %d", (int)outcome->number);
         print_bytes(outcome);
     }

@@ -4,7 +4,7 @@ use mathlib.Core.Bool.{Bool, true, false, not}
 use mathlib.Core.List.{List, [], _∷_}
 use mathlib.Core.Logic.{_≢_}
 use mathlib.Core.Path.{_≡_}
-use Prim.Native.Nat.{ℕ}
+use Prim.Native.Nat.{ℕ, _/_}
 use lib.ListN.{length, drop}
 use Rattle.integers.specs.Words.{if_then_else_, _is_, _below_}
 use Rattle.coding.specs.Bytes.{byteAt}
@@ -17,7 +17,7 @@ use Rattle.image.specs.Walk.{walk}
 use Rattle.image.specs.declared.Found.{Found}
 use Rattle.image.specs.declared.Found.the-variants.{Part, Cut, Ended}
 use Rattle.sdo.specs.declared.Outcome.the-variants.{Abort}
-use Rattle.rainsheave.specs.Calls.{isClientAbort, sdoAnswer}
+use Rattle.rainsheave.specs.Calls.{sdoAnswer}
 use Rattle.promises.specs.Calls.{Call, fresh, sdo, control, fault, tick, jump, query, store, load, search, after, number, lent, left}
 
 -- a number, and when it is handed back
@@ -52,7 +52,7 @@ refusals (sdo request room) d =
     1 when not (soundDevice d)
     ∷ 2 when not (length request is 8)
     ∷ 3 when (length room below 8)
-    ∷ 4 when isClientAbort (byteAt request 0)
+    ∷ 4 when (byteAt request 0 / 32 is 4)
     ∷ []
 refusals (control word) d = 1 when not (soundDevice d) ∷ []
 refusals (fault code) d = 1 when not (soundDevice d) ∷ 5 when (code is 0) ∷ []

@@ -1,4 +1,7 @@
-// Reads a file of event records from standard input, and writes a line for each event to standard output.
+// Reads a file of event records from standard input, and writes a line for each event to standard output. A read that fails ends
+// the run, and is told on standard error.
+ghost use Rattle.io.specs.Counts.{Counts};
+use libc::STDERR_FILENO;
 use libc::STDIN_FILENO;
 use libc::STDOUT_FILENO;
 use tracing::Run;
@@ -12,6 +15,31 @@ struct Progress {
     more: bool,
 }
 
+// How many bytes of the input stand at the start of a room, and whether the read after them failed.
+struct Filled {
+    n: usize,
+    failed: bool,
+}
+
+// Reads until the room is full, the input ends or a read fails. `io::read_full` does not tell the last two apart.
+fn fill(room: &mut [u8]) -> Filled
+    ensures { λ r. ⌜ Counts (r .n) (now (room .exit)) ⌝ }
+{
+    let mut n = 0;
+    while n < room.len() {
+        let got = libc::read(STDIN_FILENO, &mut room[n..]);
+        if got < 0 {
+            return Filled { n, failed: true };
+        }
+        let more = io::count(got, &room[n..]);
+        if more == 0 {
+            return Filled { n, failed: false };
+        }
+        n += more;
+    }
+    Filled { n, failed: false }
+}
+
 // The text always ends within its bytes: one that finds no room is left out.
 fn write(text: &[u8], end: usize) -> bool {
     if end <= text.len() {
@@ -21,9 +49,15 @@ fn write(text: &[u8], end: usize) -> bool {
     }
 }
 
+// The run stops where a read fails: what was read of that block may end anywhere, and has no lines.
 fn trace_block(run: Run) -> Progress {
     let mut records = [0u8; BLOCK_LENGTH];
-    let n = io::read_full(STDIN_FILENO, &mut records);
+    let filled = fill(&mut records);
+    if filled.failed {
+        io::write_all(STDERR_FILENO, b"trace: reading failed\n");
+        return Progress { run, more: false };
+    }
+    let n = filled.n;
     let mut text = io::large_buffer();
     let traced = tracing::trace(run, &records[..n], &mut text);
     let is_written = write(&text, traced.end);

@@ -1,4 +1,5 @@
 // A run of events over a device, with a line of text for each event.
+mod calls;
 mod text;
 mod unsound;
 
@@ -41,9 +42,13 @@ const REPLY_ROOM: usize = 12;
 
 const IMAGE_ROOM: usize = 100;
 
-const LONGER_LENGTH: usize = IMAGE_LENGTH + 1;
-
 const UNTOUCHED: u8 = 0xAA;
+
+// A request with the number's four bytes after the eight.
+const WIDE_LENGTH: usize = 12;
+
+// The image with as many bytes more as a record can ask for.
+const LONGEST_LENGTH: usize = IMAGE_LENGTH + 255;
 
 // The kinds of event.
 const FRESH: u8 = 0;
@@ -69,6 +74,14 @@ const QUERY: u8 = 9;
 const UNSOUND: u8 = 10;
 
 const TICKS: u8 = 11;
+
+const PATCH: u8 = 12;
+
+const WIDE: u8 = 13;
+
+const APPEND: u8 = 14;
+
+const BROKEN: u8 = 15;
 
 // How a load alters the image.
 const CUT: u8 = 1;
@@ -111,6 +124,16 @@ fn put_result(text: &mut [u8], at: usize, name: &[u8], number: u8) -> usize {
     put_number(text, at, number as u64)
 }
 
+// A space, and one of two words.
+fn put_word(text: &mut [u8], at: usize, holds: bool, word: &[u8], other: &[u8]) -> usize {
+    let at = put(text, at, b' ');
+    if holds {
+        put_all(text, at, word)
+    } else {
+        put_all(text, at, other)
+    }
+}
+
 fn put_query(text: &mut [u8], at: usize, reading: Reading) -> usize {
     let at = put(text, at, b' ');
     put_value(text, at, reading.value)
@@ -142,24 +165,70 @@ fn trace_fresh(run: Run, text: &mut [u8], at: usize) -> Traced {
     Traced { run, end }
 }
 
-// An SDO request, with the room for its reply.
-fn trace_sdo_in(run: Run, request: &[u8], room: &mut [u8], text: &mut [u8], at: usize) -> Traced {
+// A request, with the room for its reply.
+fn trace_request_in(
+    run: Run,
+    request: &[u8],
+    room: &mut [u8],
+    text: &mut [u8],
+    at: usize,
+    name: &[u8],
+) -> Traced {
     let device = run.device;
     let answer = rainsheave::sdo(device, request, room);
     let device = answer.device;
     let outcome = answer.outcome;
-    let at = put_result(text, at, b"sdo", rainsheave::number_of_outcome(outcome));
+    let at = put_result(text, at, name, rainsheave::number_of_outcome(outcome));
     let end = put_bytes(text, at, room);
     let run = with_device(run, device);
     Traced { run, end }
 }
 
+// A request, with so many bytes of room.
+fn trace_request(
+    run: Run,
+    request: &[u8],
+    length: u16,
+    text: &mut [u8],
+    at: usize,
+    name: &[u8],
+) -> Traced {
+    let mut room = [UNTOUCHED; REPLY_ROOM];
+    let reply = first_mut(&mut room, length as usize);
+    trace_request_in(run, request, reply, text, at, name)
+}
+
 fn trace_sdo(run: Run, event: Event, text: &mut [u8], at: usize) -> Traced {
     let bytes = event.bytes;
-    let mut room = [UNTOUCHED; REPLY_ROOM];
     let request = first(&bytes, event.small as usize);
-    let reply = first_mut(&mut room, event.word as usize);
-    trace_sdo_in(run, request, reply, text, at)
+    trace_request(run, request, event.word, text, at, b"sdo")
+}
+
+// The eight bytes, and then the four of the number.
+fn wide_bytes(event: Event) -> [u8; WIDE_LENGTH] {
+    let bytes = event.bytes;
+    let number = event.number;
+    [
+        bytes[0],
+        bytes[1],
+        bytes[2],
+        bytes[3],
+        bytes[4],
+        bytes[5],
+        bytes[6],
+        bytes[7],
+        coding::byte_of(number, 0),
+        coding::byte_of(number, 1),
+        coding::byte_of(number, 2),
+        coding::byte_of(number, 3),
+    ]
+}
+
+// A request that can be longer than the eight bytes that it should have.
+fn trace_wide(run: Run, event: Event, text: &mut [u8], at: usize) -> Traced {
+    let bytes = wide_bytes(event);
+    let request = first(&bytes, event.small as usize);
+    trace_request(run, request, event.word, text, at, b"wide")
 }
 
 // So many single ticks. The report is that of the last; where there is none, nothing is refused.
@@ -214,9 +283,9 @@ fn trace_store(run: Run, event: Event, text: &mut [u8], at: usize) -> Traced {
     trace_store_in(run, room, text, at)
 }
 
-// The image with one byte more at its end.
-fn longer(image: [u8; IMAGE_LENGTH], last: u8) -> [u8; LONGER_LENGTH] {
-    let mut bytes = [last; LONGER_LENGTH];
+// The image, and the same byte over and over after it.
+fn longest(image: [u8; IMAGE_LENGTH], last: u8) -> [u8; LONGEST_LENGTH] {
+    let mut bytes = [last; LONGEST_LENGTH];
     let mut i = 0;
     while i < IMAGE_LENGTH {
         bytes[i] = image[i];
@@ -232,6 +301,14 @@ fn replaced(image: [u8; IMAGE_LENGTH], word: u16, byte: u8) -> [u8; IMAGE_LENGTH
     bytes
 }
 
+// A load of the image with so many bytes more at its end.
+fn load_longer(run: Run, more: u8, last: u8) -> Change {
+    let device = run.device;
+    let image = run.image;
+    let bytes = longest(image, last);
+    rainsheave::load(device, first(&bytes, IMAGE_LENGTH + more as usize))
+}
+
 // A load of the image, altered for this call alone.
 fn load(run: Run, event: Event) -> Change {
     let device = run.device;
@@ -241,9 +318,21 @@ fn load(run: Run, event: Event) -> Change {
     match small {
         CUT => rainsheave::load(device, first(&image, event.word as usize)),
         REPLACED => rainsheave::load(device, &replaced(image, event.word, byte)),
-        LONGER => rainsheave::load(device, &longer(image, byte)),
+        LONGER => load_longer(run, 1, byte),
         _ => rainsheave::load(device, &image),
     }
+}
+
+// The bytes replace the image's from a place on. Those that would come after its end find no room, and are left out.
+fn trace_patch(run: Run, event: Event, text: &mut [u8], at: usize) -> Traced {
+    let device = run.device;
+    let mut image = run.image;
+    let bytes = event.bytes;
+    let place = event.word as usize % IMAGE_LENGTH;
+    put_all(&mut image, place, &bytes);
+    let end = put_result(text, at, b"patch", place as u8);
+    let run = Run { device, image };
+    Traced { run, end }
 }
 
 // Where the first field with a tag ends: the fewest bytes of the image in which it is found.
@@ -317,7 +406,21 @@ fn trace_unsound(run: Run, event: Event, text: &mut [u8], at: usize) -> Traced {
     let device = run.device;
     let image = run.image;
     let device = unsound::altered(device, event.small, event.word);
-    let end = put_result(text, at, b"unsound", unsound::call(device, event, image));
+    let called = calls::call(device, event, image);
+    let end = put_result(text, at, b"unsound", called.number);
+    Traced { run, end }
+}
+
+// The same in other ways, and what the call did with the device and the room that it was handed.
+fn trace_broken(run: Run, event: Event, text: &mut [u8], at: usize) -> Traced {
+    let device = run.device;
+    let image = run.image;
+    let device = unsound::broken(device, event.small, event.word);
+    let called = calls::call(device, event, image);
+    let after = called.device;
+    let at = put_result(text, at, b"broken", called.number);
+    let at = put_word(text, at, calls::is_same(device, after), b"same", b"other");
+    let end = put_word(text, at, called.kept, b"kept", b"written");
     Traced { run, end }
 }
 
@@ -332,6 +435,7 @@ fn trace_kind(run: Run, event: Event, text: &mut [u8], at: usize) -> Traced {
     let kind = event.kind;
     let word = event.word;
     let number = event.number;
+    let low = coding::byte_of(number, 0);
     match kind {
         FRESH => trace_fresh(run, text, at),
         SDO => trace_sdo(run, event, text, at),
@@ -345,6 +449,10 @@ fn trace_kind(run: Run, event: Event, text: &mut [u8], at: usize) -> Traced {
         QUERY => trace_query(run, text, at),
         UNSOUND => trace_unsound(run, event, text, at),
         TICKS => trace_change(run, ticks(device, word), text, at, b"ticks"),
+        PATCH => trace_patch(run, event, text, at),
+        WIDE => trace_wide(run, event, text, at),
+        APPEND => trace_change(run, load_longer(run, event.small, low), text, at, b"append"),
+        BROKEN => trace_broken(run, event, text, at),
         _ => trace_unknown(run, kind, text, at),
     }
 }

@@ -1,25 +1,28 @@
-// Devices that are not sound, and the calls that they are handed to.
-use crate::Event;
-use crate::UNTOUCHED;
+// Devices that are not sound.
 use device::ACTIVE;
 use device::Device;
 use device::FAULT;
 use device::HOLD;
-use image::IMAGE_LENGTH;
 use objects::FULL_POSITION;
 use objects::LOWER_LIMIT;
 use objects::SETTINGS;
 use objects::UPPER_LIMIT;
-use rainsheave::Change;
 
-// One more than there are.
+// One more than there are, and the highest number that a state could have.
 const NO_STATE: u8 = 4;
+
+const LAST_STATE: u8 = 255;
 
 // One part beyond full stroke.
 const BEYOND: i64 = FULL_POSITION + 1;
 
 // No setting's range has it.
 const OUT_OF_RANGE: i64 = -40000;
+
+// One beyond the ends of the set point's range.
+const SET_POINT_ABOVE: i64 = 32768;
+
+const SET_POINT_BELOW: i64 = -32769;
 
 fn with_state(device: Device, state: u8) -> Device {
     let mut other = device;
@@ -48,10 +51,30 @@ fn with_settings(device: Device, settings: [i64; SETTINGS]) -> Device {
     device::with_block(device, block::with_settings(block, settings))
 }
 
-fn with_wrong_setting(device: Device, word: u16) -> Device {
+fn with_set_point(device: Device, value: i64) -> Device {
+    let block = device.block;
+    device::with_block(device, block::with_setpoint(block, value))
+}
+
+// A word picks the setting: it stands at the place word % 17.
+fn with_setting(device: Device, word: u16, value: i64) -> Device {
     let block = device.block;
     let place = word as usize % SETTINGS;
-    device::with_block(device, block::with_setting(block, place, OUT_OF_RANGE))
+    device::with_block(device, block::with_setting(block, place, value))
+}
+
+// One more than the highest value of that setting's range.
+fn above(word: u16) -> i64 {
+    let place = word as usize % SETTINGS;
+    let row = objects::row_at(place);
+    row.high + 1
+}
+
+// One less than the lowest.
+fn below(word: u16) -> i64 {
+    let place = word as usize % SETTINGS;
+    let row = objects::row_at(place);
+    row.low - 1
 }
 
 fn with_crossed_limits(device: Device) -> Device {
@@ -62,12 +85,12 @@ fn with_crossed_limits(device: Device) -> Device {
     with_settings(device, settings)
 }
 
-// The smallest step out of where the position has to be: off rest, or beyond full stroke.
-fn with_wrong_position(device: Device) -> Device {
+// The smallest step out of where the position has to be, up or down: off rest, or beyond full stroke.
+fn with_wrong_position(device: Device, off_rest: i64, beyond: i64) -> Device {
     let state = device.state;
     match state {
-        HOLD | ACTIVE => with_position(device, BEYOND),
-        _ => with_position(device, 1),
+        HOLD | ACTIVE => with_position(device, beyond),
+        _ => with_position(device, off_rest),
     }
 }
 
@@ -76,42 +99,25 @@ pub fn altered(device: Device, way: u8, word: u16) -> Device {
     match way {
         1 => with_wrong_error(device),
         2 => with_position(device, BEYOND),
-        3 => with_wrong_setting(device, word),
+        3 => with_setting(device, word, OUT_OF_RANGE),
         4 => with_crossed_limits(device),
-        5 => with_wrong_position(device),
+        5 => with_wrong_position(device, 1, BEYOND),
         _ => with_state(device, NO_STATE),
     }
 }
 
-fn number_of_change(change: Change) -> u8 {
-    let report = change.report;
-    rainsheave::number_of_report(report)
-}
-
-fn call_sdo(device: Device, bytes: [u8; 8]) -> u8 {
-    let mut room = [UNTOUCHED; 8];
-    let answer = rainsheave::sdo(device, &bytes, &mut room);
-    let outcome = answer.outcome;
-    rainsheave::number_of_outcome(outcome)
-}
-
-fn call_store(device: Device) -> u8 {
-    let mut room = [UNTOUCHED; IMAGE_LENGTH];
-    rainsheave::number_of_report(rainsheave::store(device, &mut room))
-}
-
-// The number that a call hands back, one of eight.
-pub fn call(device: Device, event: Event, image: [u8; IMAGE_LENGTH]) -> u8 {
-    let bytes = event.bytes;
-    let which = event.number % 8;
-    match which {
-        0 => call_sdo(device, bytes),
-        1 => number_of_change(rainsheave::control(device, event.word)),
-        2 => number_of_change(rainsheave::fault(device, event.word)),
-        3 => number_of_change(rainsheave::tick(device)),
-        4 => number_of_change(rainsheave::jump(device, 1)),
-        5 => call_store(device),
-        6 => number_of_change(rainsheave::load(device, &image)),
-        _ => rainsheave::status(device).number,
+// The device, made unsound in one of nine further ways: one step beyond a range, at the ends of an i64, and downward where `altered`
+// goes upward.
+pub fn broken(device: Device, way: u8, word: u16) -> Device {
+    match way {
+        0 => with_setting(device, word, above(word)),
+        1 => with_setting(device, word, below(word)),
+        2 => with_setting(device, word, i64::MAX),
+        3 => with_setting(device, word, i64::MIN),
+        4 => with_position(device, -BEYOND),
+        5 => with_wrong_position(device, -1, -BEYOND),
+        6 => with_set_point(device, SET_POINT_ABOVE),
+        7 => with_set_point(device, SET_POINT_BELOW),
+        _ => with_state(device, LAST_STATE),
     }
 }

@@ -4,17 +4,17 @@ use mathlib.Core.Path.{_≡_}
 use lib.ListN.{length}
 use borrow.Author.Needs.{needs}
 use Rattle.image.specs.Fields.{IMAGE-LENGTH}
-use Rattle.tracing.proofs.longer.Statement.{statement}
-use Rattle.tracing.proofs.longer.Tie as tie
+use Rattle.tracing.proofs.longest.Statement.{statement}
+use Rattle.tracing.proofs.longest.Tie as tie
 
 abbrev Inv-loop : tie.InvT-loop
-Inv-loop last image bytes₀ i₀ bytes i = (i ≤ IMAGE-LENGTH) × (length bytes ≡ IMAGE-LENGTH + 1)
+Inv-loop last image bytes₀ i₀ bytes i = (i ≤ IMAGE-LENGTH) × (length bytes ≡ IMAGE-LENGTH + 255)
 
 abbrev μ-loop : tie.MeasureT-loop
 μ-loop last image bytes₀ i₀ bytes i = IMAGE-LENGTH - i
 
-pub longer-spec : {M : Type 1} → statement M
-longer-spec =
+pub longest-spec : {M : Type 1} → statement M
+longest-spec =
     tie.close
     (tie.spec
     Inv-loop

@@ -1,0 +1,29 @@
+/* What the files of `second cover` share. */
+#ifndef SECOND_COVER_H
+#define SECOND_COVER_H
+
+#include "run.h"
+
+/* What one event did. */
+struct seen {
+    const struct record *record;
+    const struct outcome *outcome;
+    const struct device *before;
+    const struct device *after;
+    const uint8_t *image; /* the run's, before the event */
+};
+
+extern const char *const state_names[STATES];
+
+/* One item of the list; its name is a format of printf. */
+void list_item(uint64_t count, const char *format, ...);
+
+/* Stored image: stores, loads, patches and searches. */
+void count_image_event(const struct seen *seen);
+void list_image_items(void);
+
+/* Numbers handed back and soundness. */
+void count_refusals(const struct seen *seen);
+void list_refusal_items(void);
+
+#endif

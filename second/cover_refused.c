@@ -1,0 +1,277 @@
+/* What an event file has reached of document 01's numbers handed back and of soundness. */
+#include "cover.h"
+
+static bool is_client_abort(uint8_t command)
+{
+    return command >= 0x80 && command <= 0x9f;
+}
+
+/* ---- Which number comes first ---- */
+
+enum order_item {
+    ORDER_2_AND_ROOM,
+    ORDER_2_AND_CLIENT_ABORT,
+    ORDER_3_AND_CLIENT_ABORT,
+    ORDER_1_AND_CLIENT_ABORT,
+    ORDER_1_AND_FAULT_CODE_0,
+    ORDER_1_AND_NOT_DISABLED,
+    ORDER_1_AND_NOT_FULL,
+    ORDERS
+};
+static const char *const order_names[ORDERS] = {
+    "number-2-although-reply-room-short",
+    "number-2-although-client-abort",
+    "number-3-although-client-abort",
+    "number-1-although-client-abort",
+    "number-1-although-fault-code-0",
+    "number-1-although-load-outside-DISABLED",
+    "number-1-although-not-a-full-image",
+};
+static uint64_t order_counts[ORDERS];
+
+/* ---- Requests ---- */
+
+enum { REQUEST_SIZES = WIDE_MOST + 1, REPLY_ROOMS = SDO_ROOM_MOST + 1 };
+static uint64_t size_counts[REQUEST_SIZES]; /* refused by 2, but those of eight: done */
+static uint64_t room_counts[REPLY_ROOMS];   /* refused by 3, but those of eight and more: done */
+
+/* The command bytes on both ends of the client's abort. */
+static const uint8_t edge_commands[] = {0x7f, 0x80, 0x9f, 0xa0};
+enum { EDGE_COMMANDS = sizeof edge_commands };
+static uint64_t command_counts[EDGE_COMMANDS];
+
+static void count_refused_request(size_t size, size_t room, uint8_t command, uint8_t number)
+{
+    bool short_room = room < SDO_SIZE;
+    bool client_abort = is_client_abort(command);
+    if (number == REQUEST_NOT_EIGHT) {
+        size_counts[size]++;
+        order_counts[ORDER_2_AND_ROOM] += short_room;
+        order_counts[ORDER_2_AND_CLIENT_ABORT] += size > 0 && client_abort;
+    } else if (number == REPLY_ROOM_UNDER_EIGHT) {
+        room_counts[room]++;
+        order_counts[ORDER_3_AND_CLIENT_ABORT] += client_abort;
+    }
+}
+
+static void count_request(const struct seen *seen)
+{
+    const struct record *record = seen->record;
+    size_t most = record->kind == EVENT_WIDE ? WIDE_MOST : SDO_SIZE;
+    size_t size = at_most(record->small, most);
+    size_t room = at_most(record->word, SDO_ROOM_MOST);
+    uint8_t command = record->bytes[0];
+    uint8_t number = seen->outcome->number;
+    count_refused_request(size, room, command, number);
+    if (number == DONE) {
+        size_counts[size]++;
+        room_counts[room]++;
+    }
+    if (number == DONE || number == NO_REPLY_DUE)
+        for (size_t i = 0; i < EDGE_COMMANDS; i++)
+            command_counts[i] += command == edge_commands[i];
+}
+
+/* ---- Faults ---- */
+
+static uint64_t no_fault_counts[STATES]; /* a report of code 0 */
+
+static void count_fault(const struct seen *seen)
+{
+    if (seen->outcome->number == FAULT_CODE_ZERO)
+        no_fault_counts[seen->before->state]++;
+}
+
+/* ---- Devices that are not sound ---- */
+
+static const char *const call_names[CALLS] = {"sdo",  "control", "fault", "tick",
+                                              "jump", "store",   "load",  "query"};
+static const char *const unsound_names[UNSOUND_KINDS] = {
+    "state-4",        "error-code", "position-above-stroke", "setting-minus-40000",
+    "limits-crossed", "position-positive-or-above-stroke",
+};
+static const char *const broken_names[BROKEN_KINDS] = {
+    "setting-above-range",
+    "setting-below-range",
+    "setting-most",
+    "setting-least",
+    "position-below-stroke",
+    "position-negative-or-below-stroke",
+    "set-point-above-range",
+    "set-point-below-range",
+    "state-255",
+};
+enum { SETTING_WAYS = BROKEN_SETTING_LEAST + 1 };
+static const char *const setting_way_names[SETTING_WAYS] = {"above-range", "below-range", "most",
+                                                            "least"};
+
+static struct {
+    uint64_t call[UNSOUND_KINDS][CALLS];
+    uint64_t state[UNSOUND_KINDS][STATES];
+} unsound_counts;
+
+static struct {
+    uint64_t call[BROKEN_KINDS][CALLS];
+    uint64_t state[BROKEN_KINDS][STATES];
+    uint64_t setting[SETTINGS][SETTING_WAYS];
+} broken_counts;
+
+static bool image_is_full(const struct seen *seen)
+{
+    struct device device = device_fresh();
+    return device_load(&device, seen->image, IMAGE_SIZE) != NOT_A_FULL_IMAGE;
+}
+
+/* What a sound device would have been refused for. */
+static void count_other_reasons(const struct seen *seen, uint32_t call)
+{
+    const struct record *record = seen->record;
+    order_counts[ORDER_1_AND_CLIENT_ABORT] +=
+        call == CALL_SDO && is_client_abort(record->bytes[0]);
+    order_counts[ORDER_1_AND_FAULT_CODE_0] += call == CALL_FAULT && record->word == 0;
+    order_counts[ORDER_1_AND_NOT_DISABLED] += call == CALL_LOAD && seen->before->state != DISABLED;
+    order_counts[ORDER_1_AND_NOT_FULL] += call == CALL_LOAD && !image_is_full(seen);
+}
+
+static void count_broken(size_t way, const struct seen *seen, uint32_t call)
+{
+    broken_counts.call[way][call]++;
+    broken_counts.state[way][seen->before->state]++;
+    if (way < SETTING_WAYS)
+        broken_counts.setting[seen->record->word % SETTINGS][way]++;
+}
+
+/* Only where the call handed back 1, the device as it was, and left the room alone. */
+static void count_not_sound(const struct seen *seen)
+{
+    const struct outcome *outcome = seen->outcome;
+    uint32_t call = seen->record->number % CALLS;
+    size_t way = seen->record->small;
+    if (outcome->number != STATE_NOT_SOUND || !outcome->same || !outcome->kept)
+        return;
+    count_other_reasons(seen, call);
+    if (seen->record->kind == EVENT_BROKEN) {
+        count_broken(at_most(way, BROKEN_STATE), seen, call);
+        return;
+    }
+    way = way < UNSOUND_KINDS ? way : UNSOUND_STATE;
+    unsound_counts.call[way][call]++;
+    unsound_counts.state[way][seen->before->state]++;
+}
+
+/* ---- Sound devices at the ends ---- */
+
+enum end { HIGHEST, LOWEST, ENDS };
+static const char *const end_names[ENDS] = {"highest", "lowest"};
+
+static uint64_t setting_end_counts[SETTINGS][ENDS];
+static uint64_t set_point_end_counts[ENDS];
+static uint64_t position_end_counts[ENDS];
+static uint64_t negative_counts[STATES];
+static uint64_t limits_equal_count;
+
+/* An end counts when it is reached, not while the value stays there. */
+static void count_end(uint64_t counts[ENDS], int64_t before, int64_t after, int64_t low,
+                      int64_t high)
+{
+    counts[HIGHEST] += before != after && after == high;
+    counts[LOWEST] += before != after && after == low;
+}
+
+static void count_sound(const struct seen *seen)
+{
+    const struct device *before = seen->before;
+    const struct device *after = seen->after;
+    const int64_t *setting = after->setting;
+    for (size_t place = 0; place < SETTINGS; place++) {
+        const struct object *object = object_of_setting(place);
+        count_end(setting_end_counts[place], before->setting[place], setting[place], object->low,
+                  object->high);
+    }
+    count_end(set_point_end_counts, before->set_point, after->set_point, INT16_MIN, INT16_MAX);
+    count_end(position_end_counts, before->position, after->position, -FULL_POSITION,
+              FULL_POSITION);
+    negative_counts[after->state] += after->position < 0;
+    limits_equal_count += setting[LOWER_LIMIT] == setting[UPPER_LIMIT];
+}
+
+void count_refusals(const struct seen *seen)
+{
+    count_sound(seen);
+    switch (seen->record->kind) {
+    case EVENT_SDO:
+    case EVENT_WIDE:
+        count_request(seen);
+        break;
+    case EVENT_FAULT:
+        count_fault(seen);
+        break;
+    case EVENT_UNSOUND:
+    case EVENT_BROKEN:
+        count_not_sound(seen);
+        break;
+    default:
+        break;
+    }
+}
+
+/* ---- The list ---- */
+
+static void list_requests(void)
+{
+    for (size_t size = 0; size < REQUEST_SIZES; size++)
+        list_item(size_counts[size], "request-of-%d-bytes", (int)size);
+    for (size_t room = 0; room < REPLY_ROOMS; room++)
+        list_item(room_counts[room], "reply-room-of-%d-bytes", (int)room);
+    for (size_t i = 0; i < EDGE_COMMANDS; i++)
+        list_item(command_counts[i], "command-%02X-%s", (unsigned)edge_commands[i],
+                  is_client_abort(edge_commands[i]) ? "gets-no-reply" : "is-aborted");
+    for (size_t i = 0; i < ORDERS; i++)
+        list_item(order_counts[i], "%s", order_names[i]);
+    for (size_t state = 0; state < STATES; state++)
+        list_item(no_fault_counts[state], "fault-code-0-in-%s", state_names[state]);
+}
+
+static void list_ways(const char *group, const char *way, const uint64_t by_call[CALLS],
+                      const uint64_t by_state[STATES])
+{
+    for (size_t call = 0; call < CALLS; call++)
+        list_item(by_call[call], "%s-%s-by-%s", group, way, call_names[call]);
+    for (size_t state = 0; state < STATES; state++)
+        list_item(by_state[state], "%s-%s-in-%s", group, way, state_names[state]);
+}
+
+static void list_not_sound(void)
+{
+    for (size_t way = 0; way < UNSOUND_KINDS; way++)
+        list_ways("unsound", unsound_names[way], unsound_counts.call[way],
+                  unsound_counts.state[way]);
+    for (size_t way = 0; way < BROKEN_KINDS; way++)
+        list_ways("broken", broken_names[way], broken_counts.call[way], broken_counts.state[way]);
+    for (size_t place = 0; place < SETTINGS; place++)
+        for (size_t way = 0; way < SETTING_WAYS; way++)
+            list_item(broken_counts.setting[place][way], "broken-%04X-%s",
+                      (unsigned)object_of_setting(place)->index, setting_way_names[way]);
+}
+
+static void list_sound(void)
+{
+    for (size_t place = 0; place < SETTINGS; place++)
+        for (size_t end = 0; end < ENDS; end++)
+            list_item(setting_end_counts[place][end], "sound-%04X-%s",
+                      (unsigned)object_of_setting(place)->index, end_names[end]);
+    for (size_t end = 0; end < ENDS; end++)
+        list_item(set_point_end_counts[end], "sound-6300-%s", end_names[end]);
+    for (size_t end = 0; end < ENDS; end++)
+        list_item(position_end_counts[end], "sound-position-%s", end_names[end]);
+    list_item(negative_counts[HOLD], "sound-position-negative-in-HOLD");
+    list_item(negative_counts[ACTIVE], "sound-position-negative-in-ACTIVE");
+    list_item(limits_equal_count, "sound-limits-equal");
+}
+
+void list_refusal_items(void)
+{
+    list_requests();
+    list_not_sound();
+    list_sound();
+}

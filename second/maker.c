@@ -1,0 +1,269 @@
+/* What the scenes of `second events` are made with. */
+#include "maker.h"
+
+#include <stdio.h>
+
+/* ---- Chance ---- */
+
+/* splitmix64 */
+uint64_t draw(struct maker *m)
+{
+    m->random += 0x9e3779b97f4a7c15u;
+    uint64_t z = m->random;
+    z = (z ^ (z >> 30)) * 0xbf58476d1ce4e5b9u;
+    z = (z ^ (z >> 27)) * 0x94d049bb133111ebu;
+    return z ^ (z >> 31);
+}
+
+uint32_t below(struct maker *m, uint32_t bound)
+{
+    return (uint32_t)(draw(m) % bound);
+}
+
+int64_t between(struct maker *m, int64_t low, int64_t high)
+{
+    return low + (int64_t)(draw(m) % (uint64_t)(high - low + 1));
+}
+
+bool one_in(struct maker *m, uint32_t bound)
+{
+    return below(m, bound) == 0;
+}
+
+uint32_t next_turn(struct maker *m, enum sweep sweep)
+{
+    return m->turns[sweep]++;
+}
+
+/* ---- Values at the edges ---- */
+
+uint32_t pick_time(struct maker *m)
+{
+    static const uint32_t times[] = {0, 1, 2, 3, 512, 1000, 1024, 65536, 3599999, 3600000};
+    switch (below(m, 4)) {
+    case 0:
+        return below(m, 3000);
+    case 1:
+        return below(m, 3600001);
+    default:
+        return PICK(m, times);
+    }
+}
+
+int64_t pick_ir(struct maker *m)
+{
+    static const int16_t places[] = {0,     1,      -1,    2,      100,   -50,   16384,
+                                     16383, -16384, -16383, 16385, -16385, 32767, -32768};
+    switch (below(m, 4)) {
+    case 0:
+        return between(m, -100, 100);
+    case 1:
+        return between(m, -FULL_STROKE, FULL_STROKE);
+    case 2:
+        return between(m, INT16_MIN, INT16_MAX);
+    default:
+        return PICK(m, places);
+    }
+}
+
+/* Off by one on both ends of the range, and around zero. */
+int64_t pick_edge(struct maker *m, const struct object *object)
+{
+    switch (below(m, 12)) {
+    case 0:
+        return object->low - 1;
+    case 1:
+        return object->low;
+    case 2:
+        return object->low + 1;
+    case 3:
+        return object->high - 1;
+    case 4:
+        return object->high;
+    case 5:
+        return object->high + 1;
+    case 6:
+        return 0;
+    case 7:
+        return -1;
+    case 8:
+        return object->fresh;
+    case 9:
+        return between(m, INT16_MIN, UINT32_MAX);
+    default:
+        return between(m, object->low, object->high);
+    }
+}
+
+const struct object *pick_object(struct maker *m)
+{
+    return &objects[below(m, OBJECTS)];
+}
+
+/* ---- Events ---- */
+
+/* Members that an event does not use hold anything, since they are ignored. */
+struct record make(struct maker *m, uint8_t kind)
+{
+    struct record record = {.kind = kind};
+    record.small = (uint8_t)draw(m);
+    record.word = (uint16_t)draw(m);
+    record.number = (uint32_t)draw(m);
+    for (size_t i = 0; i < SDO_SIZE; i++)
+        record.bytes[i] = (uint8_t)draw(m);
+    return record;
+}
+
+void emit(struct maker *m, const struct record *record)
+{
+    if (m->left == 0)
+        return;
+    m->left--;
+    record_write(stdout, record);
+    run_event(&m->run, record);
+}
+
+void emit_plain(struct maker *m, uint8_t kind)
+{
+    struct record record = make(m, kind);
+    emit(m, &record);
+}
+
+void emit_word(struct maker *m, uint8_t kind, uint16_t word)
+{
+    struct record record = make(m, kind);
+    record.word = word;
+    emit(m, &record);
+}
+
+void set_request(struct record *record, uint8_t command, uint16_t index, uint8_t sub,
+                 uint32_t data)
+{
+    record->bytes[0] = command;
+    record->bytes[1] = (uint8_t)index;
+    record->bytes[2] = (uint8_t)(index >> 8);
+    record->bytes[3] = sub;
+    for (size_t i = 0; i < 4; i++)
+        record->bytes[4 + i] = (uint8_t)(data >> (8 * i));
+}
+
+/* A whole request with room enough; lengths beyond eight mean eight. */
+void emit_sdo(struct maker *m, uint8_t command, uint16_t index, uint8_t sub, uint32_t data)
+{
+    static const uint16_t rooms[] = {8, 8, 8, 8, 8, 9, 10, 11, 12, 13, 65535};
+    struct record record = make(m, EVENT_SDO);
+    record.small = one_in(m, 8) ? (uint8_t)between(m, SDO_SIZE, UINT8_MAX) : SDO_SIZE;
+    record.word = PICK(m, rooms);
+    set_request(&record, command, index, sub, data);
+    emit(m, &record);
+}
+
+uint8_t write_command(size_t size)
+{
+    static const uint8_t commands[] = {0, WRITE_1, WRITE_2, WRITE_3, WRITE_4};
+    return commands[size];
+}
+
+uint8_t value_sub(const struct object *object)
+{
+    return object->form == VARIABLE ? 0 : 1;
+}
+
+/* A write of the right size; the data bytes beyond it hold anything at times. */
+void emit_write(struct maker *m, const struct object *object, int64_t value)
+{
+    size_t size = object_size(object);
+    uint32_t data = (uint32_t)value;
+    if (size < 4 && one_in(m, 3)) {
+        uint32_t kept = (UINT32_C(1) << (8 * size)) - 1;
+        data = (data & kept) | ((uint32_t)draw(m) & ~kept);
+    }
+    emit_sdo(m, write_command(size), object->index, value_sub(object), data);
+}
+
+void emit_setting(struct maker *m, enum setting place, int64_t value)
+{
+    emit_write(m, object_of_setting(place), value);
+}
+
+/* A control word, by its call or by SDO; bits 4 to 15 hold anything at times. */
+void emit_control(struct maker *m, uint16_t bits)
+{
+    uint16_t word = bits;
+    if (one_in(m, 2))
+        word = (uint16_t)(bits | (draw(m) & 0xfff0u));
+    if (one_in(m, 3))
+        emit_write(m, object_find(0x6040), word);
+    else
+        emit_word(m, EVENT_CONTROL, word);
+}
+
+void emit_fault(struct maker *m)
+{
+    static const uint16_t codes[] = {0, 0, 1, 255, 256, 0x8000, 0xffff};
+    uint16_t code = PICK(m, codes);
+    if (one_in(m, 3))
+        code = (uint16_t)draw(m);
+    emit_word(m, EVENT_FAULT, code);
+}
+
+/* ---- Steering ---- */
+
+bool moving_state(const struct maker *m)
+{
+    return m->run.device.state == HOLD || m->run.device.state == ACTIVE;
+}
+
+void steer_to_disabled(struct maker *m)
+{
+    if (m->run.device.state == FAULT) {
+        emit_control(m, 0);
+        emit_control(m, 8);
+    } else if (m->run.device.state != DISABLED) {
+        emit_control(m, 0);
+    }
+}
+
+void steer_to_hold(struct maker *m)
+{
+    static const uint16_t to_hold[] = {1, 3, 5, 9, 11, 13};
+    if (m->run.device.state == FAULT)
+        steer_to_disabled(m);
+    if (m->run.device.state != HOLD) {
+        uint16_t word = PICK(m, to_hold);
+        emit_control(m, word);
+    }
+}
+
+/* A fault report of any code but 0 leads to FAULT, the word 7 from HOLD to ACTIVE. */
+void steer_to(struct maker *m, enum device_state state)
+{
+    if (m->run.device.state == state)
+        return;
+    switch (state) {
+    case DISABLED:
+        steer_to_disabled(m);
+        break;
+    case FAULT:
+        emit_word(m, EVENT_FAULT, (uint16_t)between(m, 1, UINT16_MAX));
+        break;
+    default:
+        steer_to_hold(m);
+        if (state == ACTIVE)
+            emit_control(m, 7);
+    }
+}
+
+uint32_t ticks_left(const struct device *device)
+{
+    return (uint32_t)device_query(device, QUERY_TICKS_TO_GO).value;
+}
+
+/* Ticks to zero: those to go of a copy whose target is zero. */
+uint32_t ticks_left_to_zero(struct device copy)
+{
+    copy.setting[SCALING_FACTOR] = 0;
+    copy.setting[SCALING_OFFSET] = 0;
+    copy.setting[ZERO_CORRECTION] = 0;
+    return ticks_left(&copy);
+}

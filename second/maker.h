@@ -1,0 +1,93 @@
+/* The maker of event files: chance, values, events and steering, shared by the scenes.
+ *
+ * The maker runs the model along, so that it can steer to the states worth
+ * meeting and knows the ticks to go. Every draw of a random number stands in a
+ * statement of its own: C leaves the order within an expression open, and the
+ * file shall be the same on every machine. */
+#ifndef SECOND_MAKER_H
+#define SECOND_MAKER_H
+
+#include "run.h"
+
+/* What is gone through in turn, so that nothing is left to chance alone. */
+enum sweep {
+    SWEEP_ENTRIES,
+    SWEEP_COMMANDS,
+    SWEEP_RANGE_ENDS,
+    SWEEP_RAMP_TYPES,
+    SWEEP_ROOMS,
+    SWEEP_WIDE,
+    SWEEP_NO_FAULT_STATES,
+    SWEEP_UNSOUND,
+    SWEEP_BROKEN,
+    SWEEP_STORE_ROOMS,
+    SWEEP_LOAD_CUTS,
+    SWEEP_LOAD_STATES,
+    SWEEP_LOADED_VALUES,
+    SWEEP_DAMAGES,
+    SWEEP_APPENDS,
+    SWEEP_FINDS,
+    SWEEPS
+};
+
+struct maker {
+    uint64_t random;
+    uint64_t left; /* events still to be written; none is written at 0 */
+    uint32_t turns[SWEEPS];
+    struct run run;
+};
+
+/* Chance. */
+uint64_t draw(struct maker *m);
+uint32_t below(struct maker *m, uint32_t bound);
+int64_t between(struct maker *m, int64_t low, int64_t high); /* both ends included */
+bool one_in(struct maker *m, uint32_t bound);
+uint32_t next_turn(struct maker *m, enum sweep sweep); /* 0, 1, 2 and so on */
+
+#define PICK(m, table) ((table)[below((m), sizeof(table) / sizeof((table)[0]))])
+
+/* Values at the edges. */
+uint32_t pick_time(struct maker *m);
+int64_t pick_ir(struct maker *m);
+int64_t pick_edge(struct maker *m, const struct object *object);
+const struct object *pick_object(struct maker *m);
+
+/* Events. */
+struct record make(struct maker *m, uint8_t kind);
+void emit(struct maker *m, const struct record *record);
+void emit_plain(struct maker *m, uint8_t kind);
+void emit_word(struct maker *m, uint8_t kind, uint16_t word);
+void set_request(struct record *record, uint8_t command, uint16_t index, uint8_t sub,
+                 uint32_t data);
+void emit_sdo(struct maker *m, uint8_t command, uint16_t index, uint8_t sub, uint32_t data);
+uint8_t write_command(size_t size);
+uint8_t value_sub(const struct object *object);
+void emit_write(struct maker *m, const struct object *object, int64_t value);
+void emit_setting(struct maker *m, enum setting place, int64_t value);
+void emit_control(struct maker *m, uint16_t bits);
+void emit_fault(struct maker *m);
+
+/* Steering. */
+bool moving_state(const struct maker *m);
+void steer_to_disabled(struct maker *m);
+void steer_to_hold(struct maker *m);
+void steer_to(struct maker *m, enum device_state state);
+uint32_t ticks_left(const struct device *device);
+uint32_t ticks_left_to_zero(struct device copy);
+
+/* Scenes of other files than events.c: of the image, and of what is refused. */
+void scene_write_edge(struct maker *m);
+void scene_store(struct maker *m);
+void scene_load(struct maker *m);
+void scene_append(struct maker *m);
+void scene_loaded_value(struct maker *m);
+void scene_damage(struct maker *m);
+void scene_find(struct maker *m);
+void play_zero_image(struct maker *m);
+void scene_sdo_refused(struct maker *m);
+void scene_wide(struct maker *m);
+void scene_no_fault(struct maker *m);
+void scene_unsound(struct maker *m);
+void scene_broken(struct maker *m);
+
+#endif

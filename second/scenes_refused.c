@@ -1,0 +1,133 @@
+/* The scenes of what is refused: requests of any length, devices that are not sound. */
+#include "maker.h"
+
+/* ---- Requests ---- */
+
+/* A request worth an answer, one that gets none, or one that is aborted. */
+static void set_any_request(struct maker *m, struct record *record)
+{
+    static const uint8_t firsts[] = {READ, READ, WRITE_2, 0x80, 0x9f, 0x7f, 0xa0};
+    uint8_t first = PICK(m, firsts);
+    uint16_t index = pick_object(m)->index;
+    uint8_t sub = (uint8_t)below(m, 2);
+    set_request(record, first, index, sub, 7);
+}
+
+/* Requests cut short and rooms too small, both at once too; whole requests with
+ * every room in turn. */
+void scene_sdo_refused(struct maker *m)
+{
+    enum { ROOMS = SDO_ROOM_MOST + 2 };
+    struct record record = make(m, EVENT_SDO);
+    set_any_request(m, &record);
+    record.small = (uint8_t)between(m, 6, 9);
+    if (one_in(m, 4))
+        record.small = (uint8_t)below(m, 9);
+    record.word = (uint16_t)between(m, 6, 9);
+    if (one_in(m, 2)) {
+        record.small = SDO_SIZE;
+        record.word = (uint16_t)(next_turn(m, SWEEP_ROOMS) % ROOMS);
+    }
+    emit(m, &record);
+}
+
+/* In turn the lengths 0 to 12 and one above; those around eight more often. */
+void scene_wide(struct maker *m)
+{
+    static const uint8_t sizes[] = {8, 0, 7, 1, 9, 2, 8, 12, 3, 7, 4, 8, 5, 9, 6, 10, 12, 11};
+    static const uint16_t rooms[] = {8, 8, 12, 7, 8, 9, 0, 12, 13, 65535};
+    struct record record = make(m, EVENT_WIDE);
+    uint32_t turn = next_turn(m, SWEEP_WIDE);
+    record.small = sizes[turn % sizeof sizes];
+    if (one_in(m, 12))
+        record.small = (uint8_t)between(m, WIDE_MOST + 1, UINT8_MAX);
+    record.word = PICK(m, rooms);
+    if (one_in(m, 4))
+        record.word = (uint16_t)below(m, 14);
+    if (!one_in(m, 8)) /* else the bytes hold anything */
+        set_any_request(m, &record);
+    emit(m, &record);
+}
+
+/* ---- Reports of no fault ---- */
+
+void scene_no_fault(struct maker *m)
+{
+    uint32_t turn = next_turn(m, SWEEP_NO_FAULT_STATES);
+    steer_to(m, (enum device_state)(turn % STATES));
+    emit_word(m, EVENT_FAULT, 0);
+}
+
+/* ---- Devices that are not sound ---- */
+
+/* The call and what it is called with, of an unsound or broken event: at times
+ * a request or a fault code that a sound device would refuse as well. */
+static void set_call(struct maker *m, struct record *record, uint32_t call)
+{
+    record->number = (record->number & ~(uint32_t)(CALLS - 1)) | call;
+    if (!one_in(m, 4)) /* else the bytes hold anything */
+        set_any_request(m, record);
+    if (one_in(m, 3))
+        record->word = 0;
+}
+
+/* So that each call is met in each state: the states shift with each round of calls. */
+static enum device_state state_for(uint32_t turn)
+{
+    return (enum device_state)((turn + turn / CALLS) % STATES);
+}
+
+/* A device in FAULT stays there half of the time only. */
+static void leave_fault(struct maker *m)
+{
+    if (m->run.device.state == FAULT && one_in(m, 2))
+        steer_to_disabled(m);
+}
+
+/* Every way with one call in one state; call and state in turn. */
+void scene_unsound(struct maker *m)
+{
+    uint32_t turn = next_turn(m, SWEEP_UNSOUND);
+    steer_to(m, state_for(turn));
+    for (uint8_t way = 0; way < UNSOUND_KINDS; way++) {
+        struct record record = make(m, EVENT_UNSOUND);
+        set_call(m, &record, turn % CALLS);
+        record.small = way;
+        if (way == UNSOUND_STATE && one_in(m, 2))
+            record.small = (uint8_t)between(m, UNSOUND_KINDS, UINT8_MAX);
+        if (way == UNSOUND_SETTING && one_in(m, 2))
+            record.word = (uint16_t)below(m, SETTINGS);
+        emit(m, &record);
+    }
+    leave_fault(m);
+}
+
+/* A word of the setting's place. */
+static uint16_t word_of_setting(struct maker *m, uint32_t place)
+{
+    enum { ROUNDS = UINT16_MAX / SETTINGS };
+    uint32_t round = one_in(m, 3) ? 0 : below(m, ROUNDS);
+    return (uint16_t)(place + SETTINGS * round);
+}
+
+/* Every way with one call, one setting and in one state, each in turn. What a
+ * load is given is damaged from some way on. */
+void scene_broken(struct maker *m)
+{
+    uint32_t turn = next_turn(m, SWEEP_BROKEN);
+    uint32_t damaged_from = below(m, BROKEN_KINDS);
+    steer_to(m, state_for(turn));
+    for (uint8_t way = 0; way < BROKEN_KINDS; way++) {
+        if (turn % CALLS == CALL_LOAD && way == damaged_from)
+            emit_plain(m, EVENT_PATCH);
+        struct record record = make(m, EVENT_BROKEN);
+        set_call(m, &record, turn % CALLS);
+        record.small = way;
+        if (way == BROKEN_STATE && one_in(m, 2))
+            record.small = (uint8_t)between(m, BROKEN_KINDS, UINT8_MAX);
+        if (way <= BROKEN_SETTING_LEAST)
+            record.word = word_of_setting(m, turn % SETTINGS);
+        emit(m, &record);
+    }
+    leave_fault(m);
+}
