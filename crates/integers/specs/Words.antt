@@ -1,4 +1,4 @@
--- The words in which every definition is written. Each is a short name of a function of the language's library.
+-- The words in which every definition is written. Each is a short name of a function of the language's library, but for `_=?_` and `each`.
 use mathlib.Core.Bool.{Bool, true, false, cond, _&&_}
 use Prim.Native.Nat.{ℕ, zero, suc}
 use lib.Dec.{eqb, ltb}

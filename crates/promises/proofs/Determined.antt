@@ -26,4 +26,5 @@ determined =
       load = λ p q. one (p .result) (q .result);
       find = λ p q. (one (p .bytes) (q .bytes), one (p .same) (q .same), one (p .begins) (q .begins));
       find-code = λ p q. one (p .result) (q .result);
+      equation = λ p q. one p q;
     }

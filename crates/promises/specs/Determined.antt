@@ -33,3 +33,5 @@ pub record Determined : Type 1 where
       {P : Type 0} {image : List ℕ} {tag : ℕ} {memory : P} {place : ℕ} {part part′ : List ℕ} {m m′ : P} {k k′ : ℕ} →
       FindIs image tag memory place part m k → FindIs image tag memory place part′ m′ k′ → (part ≡ part′) × (m ≡ m′) × (k ≡ k′)
   pub find-code : {image : List ℕ} {tag r s : ℕ} → FindCodeIs image tag r → FindCodeIs image tag s → r ≡ s
+  -- and so is each result whose contract is a plain equation, as those of `number_of_report`, `number_of_outcome`, `read_request` and `write_request`
+  pub equation : {A : Type 0} {due r s : A} → r ≡ due → s ≡ due → r ≡ s
