@@ -55,6 +55,7 @@ use Rattle.rainsheave.proofs.Promises.{sdo-unchanged, control-is-a-write}
 use Rattle.rainsheave.proofs.Images.{round-trip, store-leaves-image}
 use Rattle.promises.specs.Calls.{sdo, status, asked, told, after}
 use Rattle.promises.specs.Demand2.{Data, list, frame, writes, tells, valueSub, valueData, writing, reading, acknowledgement, telling, isLockable, Allowed, written, Kept, statusIn, Demand2}
+use Rattle.promises.proofs.Moves.{moved, word-stored, cleared, to-fault, first-code, word-kept}
 
 -- ---- rules of the rows, each by a test that is computed
 
@@ -310,6 +311,12 @@ demand2 =
       write = write;
       unwritten = sdo-unchanged;
       control = control-written;
+      moved = λ d word s. moved s word;
+      word-stored = λ d word s. word-stored s word;
+      cleared = λ d word s. cleared s word;
+      faulted = λ d code s h. to-fault s code h;
+      first-code = λ d code s h. first-code s code h;
+      word-kept = λ d code s h. word-kept s code h;
       stored = stored;
       found = found;
       status-word = status-word;

@@ -1,4 +1,4 @@
--- A tick of a sound device is done and leaves a sound device, so that demand 3 of the device, proved of its events, holds of the calls. The status word's bit 8 compares position and target, which is the formula at tick 0. A control word moves by its bits 0 to 3 and by bit 3 of the word stored before, which are those of the remainders by 16.
+-- A tick of a sound device is done and leaves a sound device, so that demand 3 of the device, proved of its events, holds of the calls. The status word's bit 8 compares position and target, which is the formula at tick 0.
 use mathlib.Core.Bool.{Bool, true, false}
 use mathlib.Core.Path.{_≡_, refl, sym, ap, _∙_}
 use Prim.Native.Nat.{ℕ, zero, suc, _%_, _/_}
@@ -9,7 +9,7 @@ use lib.IntN.{ℤ}
 use Rattle.integers.specs.Words.{if_then_else_, _=?_}
 use Rattle.integers.proofs.Cases.{by-cases}
 use Rattle.integers.proofs.Machine.{=?-refl, =?-no}
-use Rattle.device.specs.States.{HOLD, ACTIVE, bit, fromDisabled, fromHold, fromActive, fromFault, nextState, driven}
+use Rattle.device.specs.States.{HOLD, ACTIVE, driven}
 use Rattle.ramp.specs.Ramp.{ramped, opposite}
 use Rattle.block.specs.Target.{targetPosition}
 use Rattle.block.specs.Travel.{rampOf}
@@ -27,30 +27,12 @@ use Rattle.rainsheave.specs.declared.Report.the-variants.{Done}
 use Rattle.rainsheave.specs.declared.Change.{Change}
 use Rattle.promises.specs.Calls.{Query, valueOf, position, target, ticksToGo, asked, told}
 use Rattle.promises.specs.Demand3.{ticks, bitEight, Demand3}
+use Rattle.promises.proofs.Moves.{same-move, same-after}
 
 -- a query of a sound device is answered
 pub is-told : {d : Device} → Sound d → (q : Query) → asked q d ≡ told (valueOf q d)
 unfolding queryAnswer
 is-told s q = rw (s .sound)
-
--- ---- bits of a control word
-
--- bit k, for k below 4, is that of the remainder
-low-bits : (word : ℕ) → (bit 0 (word % 16) ≡ bit 0 word) × (bit 1 (word % 16) ≡ bit 1 word) × (bit 2 (word % 16) ≡ bit 2 word) × (bit 3 (word % 16) ≡ bit 3 word)
-low-bits word = (
-  let e : word % 16 / 1 % 2 ≡ word / 1 % 2 = omega arith in rw e,
-  let e : word % 16 / 2 % 2 ≡ word / 2 % 2 = omega arith in rw e,
-  let e : word % 16 / 4 % 2 ≡ word / 4 % 2 = omega arith in rw e,
-  let e : word % 16 / 8 % 2 ≡ word / 8 % 2 = omega arith in rw e,
-)
-
-same-move : (state before word : ℕ) → nextState state before (word % 16) ≡ nextState state before word
-unfolding nextState fromDisabled fromHold fromActive fromFault
-same-move state before word = let b = low-bits word in rw (b .0, b .1, b .2, b .3)
-
-same-after : (state before word : ℕ) → nextState state (before % 16) word ≡ nextState state before word
-unfolding nextState fromFault
-same-after state before word = rw (low-bits before .3)
 
 -- ---- the status word in HOLD and ACTIVE
 

@@ -24,7 +24,8 @@ use Rattle.image.specs.Walk.{walk, partOf}
 use Rattle.sdo.specs.declared.Outcome.the-variants.{Written}
 use Rattle.rainsheave.specs.Calls.{change, loaded, sdoAnswer, sdoRoom, controlAnswer, storeRoom, loadAnswer}
 use Rattle.rainsheave.specs.declared.Report.the-variants.{Done}
-use Rattle.promises.specs.Calls.{sdo, status, asked, told, after}
+use Rattle.promises.specs.Calls.{sdo, fault, status, asked, told, after}
+use Rattle.promises.specs.Calls as Calls
 
 -- ---- requests and replies, by bytes
 
@@ -119,6 +120,26 @@ statusIn state met =
     else if state is 2 then (if met then 271 else 15)
     else 0
 
+-- ---- control words and faults
+
+-- the state to which a control word leads, where `before` is the word stored until then; bit 0 is % 2, bits 0 to 2 are % 8, bit 3 is / 8 % 2
+abbrev pub movedTo : ℕ → ℕ → ℕ → ℕ
+movedTo state before word =
+    if state is 0 then (if word % 2 is 1 then 1 else 0)
+    else if state is 3 then (if word / 8 % 2 is 1 && before / 8 % 2 is 0 then 0 else 3)
+    else if word % 2 is 0 then 0
+    else if word % 8 is 7 then 2
+    else 1
+
+-- the device e is d in a state: with position 0 but in HOLD and ACTIVE, and all settings
+pub record Entered (d e : Device) (to : ℕ) : Type 0 where
+  pub state : e .state ≡ to
+  pub position : e .block .position ≡ (if to is 1 || to is 2 then d .block .position else pos 0)
+  pub setpoint : e .block .setpoint ≡ d .block .setpoint
+  pub settings : e .block .settings ≡ d .block .settings
+
+-- ---- the demand
+
 pub record Demand2 : Type 0 where
   pub write : (d : Device) (place : ℕ) (x : ℤ) (b : Data) (room : List ℕ) → Allowed d place x b → 8 ≤ length room → Kept d place x b room
   -- a read or an abort changes nothing
@@ -127,6 +148,15 @@ pub record Demand2 : Type 0 where
   pub control :
       (d : Device) (word : ℕ) (room : List ℕ) → Sound d → word < 65536 → 8 ≤ length room →
       controlAnswer d word ≡ change Done (after (sdo (0x2B ∷ 0x40 ∷ 0x60 ∷ 0x00 ∷ word % 256 ∷ word / 256 ∷ 0 ∷ 0 ∷ []) room) d)
+  -- a control word makes the paper's move or none, and is stored; outside FAULT there is no error code
+  pub moved : (d : Device) (word : ℕ) → Sound d → Entered d (after (Calls.control word) d) (movedTo (d .state) (d .control) word)
+  pub word-stored : (d : Device) (word : ℕ) → Sound d → after (Calls.control word) d .control ≡ word
+  pub cleared :
+      (d : Device) (word : ℕ) → Sound d → after (Calls.control word) d .error ≡ (if movedTo (d .state) (d .control) word is 3 then d .error else 0)
+  -- a fault leads from each state to FAULT; the first code is kept, and the control word
+  pub faulted : (d : Device) (code : ℕ) → Sound d → 1 ≤ code → Entered d (after (fault code) d) 3
+  pub first-code : (d : Device) (code : ℕ) → Sound d → 1 ≤ code → after (fault code) d .error ≡ (if d .state is 3 then d .error else code)
+  pub word-kept : (d : Device) (code : ℕ) → Sound d → 1 ≤ code → after (fault code) d .control ≡ d .control
   -- the first 97 bytes of a room after a store of a sound device, loaded into a sound disabled device: the settings of the first, and all else of the second
   pub stored :
       (d e : Device) (room : List ℕ) → Sound d → Sound e → e .state ≡ DISABLED → 97 ≤ length room →
