@@ -10,8 +10,9 @@
 /* ---- The items ---- */
 
 static const enum abort_code abort_codes[] = {
-    ABORT_COMMAND, ABORT_NO_OBJECT, ABORT_NO_SUB_INDEX, ABORT_READ_ONLY, ABORT_SIZE,
-    ABORT_VALUE,   ABORT_TOO_HIGH,  ABORT_TOO_LOW,      ABORT_LIMITS,    ABORT_LOCKED,
+    ABORT_COMMAND,  ABORT_NO_OBJECT, ABORT_NO_SUB_INDEX, ABORT_READ_ONLY,
+    ABORT_TOO_LONG, ABORT_TOO_SHORT, ABORT_VALUE,        ABORT_TOO_HIGH,
+    ABORT_TOO_LOW,  ABORT_LIMITS,    ABORT_LOCKED,
 };
 enum { ABORT_CODES = sizeof abort_codes / sizeof abort_codes[0] };
 
@@ -136,12 +137,15 @@ static uint16_t word_at(const uint8_t *bytes)
     return (uint16_t)(bytes[0] | bytes[1] << 8);
 }
 
-static void count_abort(const uint8_t *reply)
+static void count_abort(const struct seen *seen, const struct object *object)
 {
+    const uint8_t *reply = seen->outcome->bytes;
     uint32_t code = word_at(&reply[4]) | (uint32_t)word_at(&reply[6]) << 16;
     for (size_t i = 0; i < ABORT_CODES; i++)
         if ((uint32_t)abort_codes[i] == code)
             counts.abort[i]++;
+    if (object != NULL)
+        count_length_abort(seen, object, code);
 }
 
 static void count_read(const struct seen *seen, const struct object *object)
@@ -177,7 +181,7 @@ static void count_sdo(const struct seen *seen)
         return;
     const struct object *object = object_find(word_at(&reply[1]));
     if (reply[0] == ABORT) {
-        count_abort(reply);
+        count_abort(seen, object);
     } else if (reply[0] == WRITTEN) {
         counts.write[object - objects]++;
         if (object->value == CONTROL_WORD)
@@ -302,6 +306,7 @@ static void list_all(void)
     list_transitions();
     list_ramps_and_bands();
     list_entries();
+    list_length_items();
     for (size_t i = 0; i < EXAMPLES; i++)
         list_item(counts.example[i], "example-%s", example_names[i]);
     list_image_items();

@@ -22,6 +22,10 @@ void list_item(uint64_t count, const char *format, ...);
 void count_image_event(const struct seen *seen);
 void list_image_items(void);
 
+/* Writes of a wrong length; the code is that of the abort seen. */
+void count_length_abort(const struct seen *seen, const struct object *object, uint32_t code);
+void list_length_items(void);
+
 /* Numbers handed back and soundness. */
 void count_refusals(const struct seen *seen);
 void list_refusal_items(void);

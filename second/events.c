@@ -105,6 +105,78 @@ static void scene_range_end(struct maker *m)
     emit_write(m, object, end);
 }
 
+/* ---- Scenes: writes of a wrong length ---- */
+
+/* The bytes of one value with every size but the right one. */
+static void emit_wrong_lengths(struct maker *m, const struct object *object, int64_t value)
+{
+    for (size_t size = 1; size <= 4; size++)
+        if (size != object_size(object))
+            emit_sdo(m, write_command(size), object->index, value_sub(object), (uint32_t)value);
+}
+
+static void wrong_length_for_read_only(struct maker *m)
+{
+    static const uint16_t indexes[] = {0x6041, 0x604e, 0x6310};
+    uint16_t index = PICK(m, indexes);
+    emit_wrong_lengths(m, object_find(index), 0);
+}
+
+static void wrong_length_out_of_range(struct maker *m, const struct object *object)
+{
+    int64_t value = one_in(m, 2) ? object->low - 1 : object->high + 1;
+    emit_wrong_lengths(m, object, value);
+}
+
+/* One limit beyond the other; nothing is beyond one at the end of its range. */
+static void wrong_length_limits_crossed(struct maker *m)
+{
+    const int64_t *setting = m->run.device.setting;
+    bool upper = one_in(m, 2);
+    if (setting[LOWER_LIMIT] == INT16_MIN)
+        upper = false;
+    else if (setting[UPPER_LIMIT] == INT16_MAX)
+        upper = true;
+    int64_t value = upper ? setting[LOWER_LIMIT] - 1 : setting[UPPER_LIMIT] + 1;
+    emit_wrong_lengths(m, object_of_setting(upper ? UPPER_LIMIT : LOWER_LIMIT), value);
+}
+
+static void wrong_length_locked(struct maker *m, const struct object *object)
+{
+    steer_to(m, ACTIVE);
+    int64_t value = between(m, object->low, object->high);
+    emit_wrong_lengths(m, object, value);
+}
+
+/* The settings that are locked while ACTIVE; each has a range. By steps of four
+ * the first three are of one, four and two bytes. */
+static const struct object *locked_setting(uint32_t round)
+{
+    enum { LOCKED_SETTINGS = DEAD_BAND_THRESHOLD - RAMP_TYPE + 1, STEP = 4 };
+    return object_of_setting(RAMP_TYPE + round * STEP % LOCKED_SETTINGS);
+}
+
+/* In turn: places 6, 7 and 8 of the aborts have reason too, then place 4, which comes first. */
+static void scene_wrong_length(struct maker *m)
+{
+    enum { REASONS = 4 };
+    uint32_t turn = next_turn(m, SWEEP_WRONG_LENGTHS);
+    const struct object *locked = locked_setting(turn / REASONS);
+    switch (turn % REASONS) {
+    case 0:
+        wrong_length_out_of_range(m, locked);
+        break;
+    case 1:
+        wrong_length_limits_crossed(m);
+        break;
+    case 2:
+        wrong_length_locked(m, locked);
+        break;
+    default:
+        wrong_length_for_read_only(m);
+    }
+}
+
 /* ---- Scenes: states ---- */
 
 static void scene_control(struct maker *m)
@@ -346,10 +418,11 @@ static const struct {
     uint32_t weight;
     void (*play)(struct maker *m);
 } scenes[] = {
-    /* SDO */
+    /* SDO; a scene_wrong_length is three events and more */
     {120, scene_write_edge},
     {120, scene_sweep_entries},
     {40, scene_write_size},
+    {15, scene_wrong_length},
     {120, scene_read},
     {15, scene_read_command},
     {50, scene_any_command},

@@ -12,6 +12,7 @@
 /* What is gone through in turn, so that nothing is left to chance alone. */
 enum sweep {
     SWEEP_ENTRIES,
+    SWEEP_WRONG_LENGTHS,
     SWEEP_COMMANDS,
     SWEEP_RANGE_ENDS,
     SWEEP_RAMP_TYPES,

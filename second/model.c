@@ -470,8 +470,11 @@ static enum abort_code write_entry(struct device *device, const struct object *o
 {
     if (object->access == READ_ONLY || !is_value_sub(object, sub))
         return ABORT_READ_ONLY;
-    if (size != object_size(object))
-        return ABORT_SIZE;
+    /* Place 5, by wish 1 of document 02: which way the length is wrong. */
+    if (size > object_size(object))
+        return ABORT_TOO_LONG;
+    if (size < object_size(object))
+        return ABORT_TOO_SHORT;
     int64_t value = object_value(object, data);
     enum abort_code code = range_abort(object, value);
     if (code != NO_ABORT)

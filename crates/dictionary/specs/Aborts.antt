@@ -1,4 +1,4 @@
--- Document 01, "SDO": the codes of the aborts, in order.
+-- Document 01, "SDO": the codes of the aborts, in order; the fifth as wish 1 of document 02 has it.
 use Prim.Native.Nat.{ℕ}
 
 -- 1: another command byte
@@ -17,9 +17,12 @@ NO-SUB-INDEX = 0x06090011
 abbrev pub READ-ONLY-ENTRY : ℕ
 READ-ONLY-ENTRY = 0x06010002
 
--- 5: size differs from the type
-abbrev pub WRONG-SIZE : ℕ
-WRONG-SIZE = 0x06070010
+-- 5: size differs from the type: too many bytes, too few
+abbrev pub TOO-MANY-BYTES : ℕ
+TOO-MANY-BYTES = 0x06070012
+
+abbrev pub TOO-FEW-BYTES : ℕ
+TOO-FEW-BYTES = 0x06070013
 
 -- 6: too high, too low; of a choice both ways
 abbrev pub TOO-HIGH : ℕ

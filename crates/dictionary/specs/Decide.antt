@@ -2,14 +2,14 @@
 use mathlib.Core.Bool.{Bool, false, not, _&&_}
 use Prim.Native.Nat.{ℕ}
 use lib.IntN.{ℤ}
-use Rattle.integers.specs.Words.{if_then_else_, _is_, _<?_}
+use Rattle.integers.specs.Words.{if_then_else_, _is_, _below_, _<?_}
 use Rattle.objects.specs.Places.{UPPER-LIMIT, LOWER-LIMIT}
 use Rattle.objects.specs.Table.{WHILE-ACTIVE, rowAt}
 use Rattle.coding.specs.Coding.{valueOf, numberOf}
 use Rattle.block.specs.Block.{setting}
 use Rattle.device.specs.States.{ACTIVE}
 use Rattle.device.specs.declared.Device.{Device}
-use Rattle.dictionary.specs.Aborts.{READ-ONLY-ENTRY, WRONG-SIZE, TOO-HIGH, TOO-LOW, NO-SUCH-CHOICE, LIMITS-CROSSED, LOCKED-NOW}
+use Rattle.dictionary.specs.Aborts.{READ-ONLY-ENTRY, TOO-MANY-BYTES, TOO-FEW-BYTES, TOO-HIGH, TOO-LOW, NO-SUCH-CHOICE, LIMITS-CROSSED, LOCKED-NOW}
 use Rattle.dictionary.specs.Named.{Named, value, byte, nothing, named}
 use Rattle.dictionary.specs.Values.{valueAt, writtenTo}
 use Rattle.dictionary.specs.declared.Decision.{Decision}
@@ -27,6 +27,10 @@ unfoldable pub readDecision : Device → ℕ → ℕ → Decision
 readDecision d index sub = readOf d (named index sub)
 
 -- ---- a write
+
+-- place 5: more bytes were sent than the type has, or fewer
+abbrev pub sizeCode : ℕ → ℕ → ℕ
+sizeCode has sent = if has below sent then TOO-MANY-BYTES else TOO-FEW-BYTES
 
 -- place 6: a choice has one code for both ways
 abbrev pub rangeCode : Bool → ℕ → ℕ
@@ -48,7 +52,7 @@ unfoldable pub verdictOn : Device → ℕ → ℕ → ℤ → Decision
 verdictOn d place size x =
     let row = rowAt place in
     if not (row .writable) then Abort READ-ONLY-ENTRY
-    else if not (row .size is size) then Abort WRONG-SIZE
+    else if not (row .size is size) then Abort (sizeCode (row .size) size)
     else if row .high <? x then Abort (rangeCode (row .choice) TOO-HIGH)
     else if x <? row .low then Abort (rangeCode (row .choice) TOO-LOW)
     else if crosses d place x then Abort LIMITS-CROSSED

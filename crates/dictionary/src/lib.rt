@@ -3,7 +3,7 @@
 ghost use mathlib.Core.Path.{_≡_};
 ghost use Rattle.dictionary.specs.Values.{valueAt, writtenTo};
 ghost use Rattle.dictionary.specs.Named as Named;
-ghost use Rattle.dictionary.specs.Decide.{isLocked, rangeCode, readOf, readDecision, writeOf, writeDecision, carriedOut};
+ghost use Rattle.dictionary.specs.Decide.{isLocked, sizeCode, rangeCode, readOf, readDecision, writeOf, writeDecision, carriedOut};
 ghost use Rattle.dictionary.specs.Decide as Decide;
 ghost use Rattle.dictionary.specs.Asked.{Placed, Other, Looked, Valued, Writing, Decided};
 ghost use Rattle.device.specs.Sound.{Sound};
@@ -30,7 +30,9 @@ pub const NO_SUB_INDEX: u32 = 0x06090011;
 
 pub const READ_ONLY_ENTRY: u32 = 0x06010002;
 
-pub const WRONG_SIZE: u32 = 0x06070010;
+pub const TOO_MANY_BYTES: u32 = 0x06070012;
+
+pub const TOO_FEW_BYTES: u32 = 0x06070013;
 
 pub const TOO_HIGH: u32 = 0x06090031;
 
@@ -135,6 +137,17 @@ fn is_locked(lock: u8, state: u8) -> bool
     lock == WHILE_ACTIVE && state == ACTIVE
 }
 
+// A size that differs from the type's: which way it differs has a code of its own.
+fn size_code(has: u8, sent: u8) -> u32
+    ensures { λ r. ⌜ r ≡ sizeCode has sent ⌝ }
+{
+    if has < sent {
+        TOO_MANY_BYTES
+    } else {
+        TOO_FEW_BYTES
+    }
+}
+
 // A choice among numbered kinds has one code for both ways out of its range.
 fn range_code(choice: bool, code: u32) -> u32
     ensures { λ r. ⌜ r ≡ rangeCode choice code ⌝ }
@@ -151,7 +164,7 @@ fn write_value(device: Device, place: usize, row: Row, size: u8, number: u32) ->
         return Decision::Abort(READ_ONLY_ENTRY);
     }
     if row.size != size {
-        return Decision::Abort(WRONG_SIZE);
+        return Decision::Abort(size_code(row.size, size));
     }
     let value = coding::value_of(row.size, row.signed, number);
     if row.high < value {

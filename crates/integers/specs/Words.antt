@@ -1,5 +1,6 @@
--- The words in which every definition is written. Each is a short name of a function of the language's library, but for `_=?_` and `each`.
-use mathlib.Core.Bool.{Bool, true, false, cond, _&&_}
+-- The words in which every definition is written. Each is a short name of a function of the language's library, but for `_=?_`, `_among_` and `each`.
+use mathlib.Core.Bool.{Bool, true, false, cond, _&&_, _||_}
+use mathlib.Core.List.{List, [], _∷_}
 use Prim.Native.Nat.{ℕ, zero, suc}
 use lib.Dec.{eqb, ltb}
 use lib.IntN.{ℤ, pos, negsuc, negℤ}
@@ -7,7 +8,7 @@ use lib.Signed.{ltZ, leZ, quotZ}
 
 infixr 5 if_then_else_
 infixl 7 _over_
-infix 50 _<?_ _≤?_ _=?_ _is_ _below_
+infix 50 _<?_ _≤?_ _=?_ _is_ _below_ _among_
 -- the first value where the test holds, and else the second
 abbrev pub if_then_else_ : {A : Type 0} → Bool → A → A → A
 if t then a else b = cond t a b
@@ -39,6 +40,11 @@ a is b = eqb a b
 
 abbrev pub _below_ : ℕ → ℕ → Bool
 a below b = ltb a b
+
+-- the number is one of a list
+abbrev pub _among_ : ℕ → List ℕ → Bool
+n among [] = false
+n among (m ∷ list) = n is m || n among list
 
 -- the test holds of each number below n
 unfoldable pub each : ℕ → (ℕ → Bool) → Bool

@@ -1,36 +1,34 @@
 -- Demand 2. The bytes of a request name the object and stand for the value, by tests that are computed over the rows; what no rule forbids is decided to be written, and the dictionary's promises of that say the rest.
-use mathlib.Core.Bool.{Bool, true, false, not, _&&_}
+use mathlib.Core.Bool.{Bool, true, false, not}
 use mathlib.Core.List.{List, [], _∷_, _++_}
 use mathlib.Core.Logic.{_≢_}
 use mathlib.Core.Path.{_≡_, refl, sym, ap, _∙_}
-use Prim.Native.Nat.{ℕ, _+_, _*_, _-_, _%_, _/_, _≤_, _<_}
+use Prim.Native.Nat.{ℕ, _+_, _-_, _%_, _/_, _≤_, _<_}
 use native.Mathlib.Omega.{arith}
-use borrow.Author.Tests.{le-ltb, eqb-true}
+use borrow.Author.Tests.{eqb-true}
 use lib.Dec.{eqb, ltb}
 use lib.IntN.{ℤ, pos}
 use lib.ListN.{length, take, drop}
 use Rattle.integers.specs.Words.{each, _is_, _=?_}
 use Rattle.integers.proofs.Cases.{by-cases, by-less, clash}
-use Rattle.integers.proofs.Each.{each-at, and-split}
+use Rattle.integers.proofs.Each.{each-at}
 use Rattle.objects.specs.Places.{SETTINGS, WRITABLE, ROWS, CONTROL-WORD, STATUS-WORD, ERROR-CODE, COMMAND}
 use Rattle.objects.specs.Table.{WHILE-ACTIVE, objects, rowAt}
 use Rattle.objects.specs.Lookup.{placeFrom, placeOf, entryAt}
-use Rattle.objects.specs.declared.Entry.{Entry}
-use Rattle.objects.specs.declared.Entry.the-variants.{Value, Fixed, Missing}
-use Rattle.objects.proofs.Rules.{each-row-is-found, below-writable}
-use Rattle.coding.specs.Bytes.{byteAt, byteOf, twoOf, fourOf, fourBytes}
+use Rattle.objects.proofs.Rules.{below-writable}
+use Rattle.coding.specs.Bytes.{fourOf, fourBytes}
 use Rattle.coding.specs.Coding.{span, valueOf, numberOf}
 use Rattle.coding.proofs.Laws.{number-below, low-bytes, there-and-back}
 use Rattle.coding.proofs.Rows.{row-typed, row-held}
 use Rattle.device.specs.States.{DISABLED, HOLD, ACTIVE}
 use Rattle.device.specs.Events.{controlled}
-use Rattle.device.specs.Sound.{soundDevice, Sound}
+use Rattle.device.specs.Sound.{Sound}
 use Rattle.device.specs.Queries.{targetMet, statusOf}
 use Rattle.device.specs.Demand.{deviceTargetPosition}
 use Rattle.device.specs.declared.Device.{Device}
 use Rattle.dictionary.specs.Named.{Named, value, byte, nothing, named}
 use Rattle.dictionary.specs.Values.{valueAt, writtenTo}
-use Rattle.dictionary.specs.Decide.{isLocked, verdictOn, readOf, readDecision, writeOf, writeDecision, carriedOut}
+use Rattle.dictionary.specs.Decide.{isLocked, readOf, readDecision, writeOf, writeDecision}
 use Rattle.dictionary.specs.declared.Decision.the-variants.{Write}
 use Rattle.dictionary.specs.Accept.{Accept}
 use Rattle.dictionary.proofs.Laws.{InTable, named-in-table, is-accepted}
@@ -41,20 +39,20 @@ use Rattle.image.specs.Walk.{walk, partOf}
 use Rattle.image.proofs.Walks.{stored-value-found}
 use Rattle.image.proofs.Lengths.{sized}
 use Rattle.image.proofs.LowBytes.{number-from-bytes}
-use Rattle.sdo.specs.Frames.{FRAME, requestOf, asksOf, readReply, frameOf, repliedIn}
+use Rattle.sdo.specs.Frames.{FRAME, asksOf, readReply, frameOf, repliedIn}
 use Rattle.sdo.specs.Serve.{answer, decisionOn, outcomeOf, served}
 use Rattle.sdo.specs.declared.Asks.{Asks}
 use Rattle.sdo.specs.declared.Asks.the-variants.{Reads, Writes, Unknown}
 use Rattle.sdo.specs.declared.Request.{Request}
 use Rattle.sdo.specs.declared.Answer.{Answer}
-use Rattle.sdo.specs.declared.Outcome.{Outcome}
-use Rattle.sdo.specs.declared.Outcome.the-variants.{Read, Written}
-use Rattle.rainsheave.specs.Calls.{change, isClientAbort, sdoAnswer, sdoRoom, controlAnswer, queryAnswer, storeRoom, loaded, loadAnswer}
+use Rattle.sdo.specs.declared.Outcome.the-variants.{Written}
+use Rattle.rainsheave.specs.Calls.{change, sdoAnswer, sdoRoom, controlAnswer, queryAnswer, storeRoom, loaded, loadAnswer}
 use Rattle.rainsheave.specs.declared.Report.the-variants.{Done}
 use Rattle.rainsheave.proofs.Promises.{sdo-unchanged, control-is-a-write}
 use Rattle.rainsheave.proofs.Images.{round-trip, store-leaves-image}
 use Rattle.promises.specs.Calls.{sdo, status, asked, told, after}
-use Rattle.promises.specs.Demand2.{Data, list, frame, writes, tells, valueSub, valueData, writing, reading, acknowledgement, telling, isLockable, Allowed, written, Kept, statusIn, Demand2}
+use Rattle.promises.specs.Demand2.{Data, list, frame, writes, valueSub, writing, reading, acknowledgement, telling, isLockable, Allowed, written, Kept, statusIn, Demand2}
+use Rattle.promises.proofs.Requests.{writes-no-abort, is-named, request, frame-read, frame-answered, frame-replied}
 use Rattle.promises.proofs.Moves.{moved, word-stored, cleared, to-fault, first-code, word-kept}
 
 -- ---- rules of the rows, each by a test that is computed
@@ -69,38 +67,11 @@ is-writes Reads n e = clash e refl
 is-writes (Writes size) n e = ap Writes (eqb-true size n e)
 is-writes Unknown n e = clash e refl
 
-abbrev isValue : Entry → Bool
-isValue Value = true
-isValue (Fixed n) = false
-isValue Missing = false
-
-is-value : (e : Entry) → isValue e ≡ true → e ≡ Value
-is-value Value h = refl
-is-value (Fixed n) h = clash h refl
-is-value Missing h = clash h refl
-
 module _ (place : ℕ) (h : place < ROWS) where
-  -- the command byte asks for a write of the row's size, and is no client abort
+  -- the command byte asks for a write of the row's size
   asks : asksOf (writes (rowAt place .size)) ≡ Writes (rowAt place .size)
   unfolding each objects asksOf
   asks = is-writes _ _ (each-at ROWS (λ k. isWrites (asksOf (writes (rowAt k .size))) (rowAt k .size)) place refl h)
-
-  no-abort : isClientAbort (writes (rowAt place .size)) ≡ false
-  unfolding each objects
-  no-abort = by (isClientAbort (writes (rowAt place .size))) (each-at ROWS (λ k. not (isClientAbort (writes (rowAt k .size)))) place refl h)
-    where
-      by : (t : Bool) → not t ≡ true → t ≡ false
-      by true e = sym e
-      by false e = refl
-
-  -- index and sub-index name the object's value
-  entry : entryAt (rowAt place .entries) (valueSub place) ≡ Value
-  unfolding each objects entryAt
-  entry = is-value _ (each-at ROWS (λ k. isValue (entryAt (rowAt k .entries) (valueSub k))) place refl h)
-
-  is-named : named (rowAt place .index) (valueSub place) ≡ value place
-  unfolding named
-  is-named = rw (each-row-is-found place h, entry)
 
   -- the lock is on the objects that the paper names
   lock : (rowAt place .lock is WHILE-ACTIVE) ≡ isLockable (rowAt place .index)
@@ -115,29 +86,6 @@ module _ (place : ℕ) (h : place < ROWS) where
       by true b e = sym e
       by false true e = e
       by false false e = refl
-
--- ---- requests
-
--- an index is made of its two bytes
-index-back : (index : ℕ) → twoOf (index % 256) (index / 256) ≡ index
-index-back index = omega arith
-
--- the request in a frame
-abbrev request : ℕ → ℕ → ℕ → Data → Request
-request command index sub b = record { command = command; sub = sub; index = index; number = fourOf (b .one) (b .two) (b .three) (b .four) }
-
-frame-read : (command index sub : ℕ) (b : Data) → requestOf (frame command index sub (list b)) ≡ request command index sub b
-frame-read command index sub b = rw (index-back index)
-
--- what a sound device with room enough answers to a frame that is no client abort
-frame-answered : {d : Device} → Sound d → (command index sub : ℕ) (b : Data) (room : ℕ) → isClientAbort command ≡ false → FRAME ≤ room → sdoAnswer d (frame command index sub (list b)) room ≡ served d (request command index sub b)
-unfolding sdoAnswer
-frame-answered {d} s command index sub b room c h = rw (s .sound, le-ltb room FRAME h, c) (ap (served d) (frame-read command index sub b))
-
--- and the room then
-frame-replied : {d : Device} → Sound d → (command index sub : ℕ) (b : Data) (room : List ℕ) → isClientAbort command ≡ false → FRAME ≤ length room → sdoRoom d (frame command index sub (list b)) room ≡ repliedIn (served d (request command index sub b) .outcome) (request command index sub b) room
-unfolding sdoRoom
-frame-replied s command index sub b room c h = rw (frame-answered s command index sub b (length room) c h, frame-read command index sub b)
 
 -- ---- a write that no rule forbids
 
@@ -179,11 +127,11 @@ module _ {d : Device} {place : ℕ} {x : ℤ} {b : Data} (a : Allowed d place x 
 
   module _ (room : List ℕ) (h : FRAME ≤ length room) where
     answered : sdoAnswer d (writing place (list b)) (length room) ≡ answer Written (writtenTo place x d)
-    answered = frame-answered (a .sound) _ _ _ b (length room) (no-abort place in-table) h ∙ write-served
+    answered = frame-answered (a .sound) _ _ _ b (length room) (writes-no-abort (rowAt place .size)) h ∙ write-served
 
     replied : sdoRoom d (writing place (list b)) room ≡ acknowledgement place ++ drop FRAME room
     unfolding repliedIn frameOf fourBytes
-    replied = frame-replied (a .sound) _ _ _ b room (no-abort place in-table) h ∙ rw write-served
+    replied = frame-replied (a .sound) _ _ _ b room (writes-no-abort (rowAt place .size)) h ∙ rw write-served
 
   after-sound : Sound (writtenTo place x d)
   after-sound = written-sound (a .sound) place (rowAt place .size) x (a .writable) accept

@@ -2,7 +2,9 @@ pub mod Determined
 pub mod Names
 pub mod Demand1
 pub mod Moves
+pub mod Requests
 pub mod Demand2
 pub mod Demand3
+pub mod WriteLength
 pub mod History
 pub mod Examples

@@ -43,9 +43,9 @@ list b = b .one ∷ b .two ∷ b .three ∷ b .four ∷ []
 abbrev pub frame : ℕ → ℕ → ℕ → List ℕ → List ℕ
 frame command index sub data-bytes = command ∷ index % 256 ∷ index / 256 ∷ sub ∷ data-bytes
 
--- the command byte of a write of 1, 2 or 4 bytes, and of the reply to a read of so many
+-- the command byte of a write of 1, 2, 3 or 4 bytes, and of the reply to a read of 1, 2 or 4
 abbrev pub writes : ℕ → ℕ
-writes size = if size is 1 then 0x2F else if size is 2 then 0x2B else 0x23
+writes size = if size is 1 then 0x2F else if size is 2 then 0x2B else if size is 3 then 0x27 else 0x23
 
 abbrev pub tells : ℕ → ℕ
 tells size = if size is 1 then 0x4F else if size is 2 then 0x4B else 0x43

@@ -3,6 +3,7 @@ pub mod Names
 pub mod Demand1
 pub mod Demand2
 pub mod Demand3
+pub mod WriteLength
 pub mod History
 pub mod Examples
 pub mod Determined

@@ -1,5 +1,5 @@
 -- The paper's numbers by their names, each as document 01 prints it: indexes, tags, entries of a time, states, status words, abort codes, numbers handed back.
-use mathlib.Core.List.{[], _∷_, map}
+use mathlib.Core.List.{List, [], _∷_, map}
 use mathlib.Core.Path.{_≡_}
 use Prim.Native.Nat.{ℕ, _-_}
 use Rattle.objects.specs.Places.{HOLD-SET-POINT, UPPER-LIMIT, LOWER-LIMIT, SCALING-FACTOR, SCALING-OFFSET, ZERO-CORRECTION, RAMP-TYPE}
@@ -9,8 +9,8 @@ use Rattle.objects.specs.Table.{rowAt}
 use Rattle.objects.specs.Lookup.{SECONDS, MILLI}
 use Rattle.device.specs.States.{DISABLED, HOLD, ACTIVE, FAULT}
 use Rattle.device.specs.Queries.{STATUS-DISABLED, STATUS-HOLD, STATUS-ACTIVE, STATUS-FAULT, TARGET-MET}
-use Rattle.dictionary.specs.Aborts.{UNKNOWN-COMMAND, NO-OBJECT, NO-SUB-INDEX, READ-ONLY-ENTRY, WRONG-SIZE, TOO-HIGH, TOO-LOW}
-use Rattle.dictionary.specs.Aborts.{NO-SUCH-CHOICE, LIMITS-CROSSED, LOCKED-NOW}
+use Rattle.dictionary.specs.Aborts.{UNKNOWN-COMMAND, NO-OBJECT, NO-SUB-INDEX, READ-ONLY-ENTRY, TOO-MANY-BYTES, TOO-FEW-BYTES}
+use Rattle.dictionary.specs.Aborts.{TOO-HIGH, TOO-LOW, NO-SUCH-CHOICE, LIMITS-CROSSED, LOCKED-NOW}
 use Rattle.image.specs.Walk.{FIELD-CUT, NOT-FOUND}
 use Rattle.rainsheave.specs.Numbers.{UNSOUND, WRONG-LENGTH, NO-ROOM, NO-REPLY-DUE, NO-FAULT, NO-IMAGE-ROOM, NOT-FULL, BAD-VALUE, NOT-DISABLED}
 
@@ -20,6 +20,12 @@ indexAt place = rowAt place .index
 
 abbrev pub indexOfTag : ℕ → ℕ
 indexOfTag tag = rowAt (tag - 1) .index
+
+-- the codes of the aborts in their order; the fifth place has two, by wish 1 of document 02
+abbrev pub ABORTS : List ℕ
+ABORTS =
+    0x05040001 ∷ 0x06020000 ∷ 0x06090011 ∷ 0x06010002 ∷ 0x06070012 ∷ 0x06070013
+    ∷ 0x06090031 ∷ 0x06090032 ∷ 0x06090030 ∷ 0x06090036 ∷ 0x08000022 ∷ []
 
 pub record Names : Type 0 where
   -- which object is at which index
@@ -56,8 +62,9 @@ pub record Names : Type 0 where
   pub status-words : STATUS-DISABLED ∷ STATUS-HOLD ∷ STATUS-ACTIVE ∷ STATUS-FAULT ∷ TARGET-MET ∷ [] ≡ 8 ∷ 9 ∷ 15 ∷ 0 ∷ 256 ∷ []
   -- the aborts in their order
   pub aborts :
-      UNKNOWN-COMMAND ∷ NO-OBJECT ∷ NO-SUB-INDEX ∷ READ-ONLY-ENTRY ∷ WRONG-SIZE ∷ TOO-HIGH ∷ TOO-LOW ∷ NO-SUCH-CHOICE ∷ LIMITS-CROSSED ∷ LOCKED-NOW ∷ []
-      ≡ 0x05040001 ∷ 0x06020000 ∷ 0x06090011 ∷ 0x06010002 ∷ 0x06070010 ∷ 0x06090031 ∷ 0x06090032 ∷ 0x06090030 ∷ 0x06090036 ∷ 0x08000022 ∷ []
+      UNKNOWN-COMMAND ∷ NO-OBJECT ∷ NO-SUB-INDEX ∷ READ-ONLY-ENTRY ∷ TOO-MANY-BYTES ∷ TOO-FEW-BYTES
+      ∷ TOO-HIGH ∷ TOO-LOW ∷ NO-SUCH-CHOICE ∷ LIMITS-CROSSED ∷ LOCKED-NOW ∷ []
+      ≡ ABORTS
   -- the numbers handed back
   pub numbers :
       UNSOUND ∷ WRONG-LENGTH ∷ NO-ROOM ∷ NO-REPLY-DUE ∷ NO-FAULT ∷ NO-IMAGE-ROOM ∷ NOT-FULL ∷ BAD-VALUE ∷ NOT-DISABLED ∷ []

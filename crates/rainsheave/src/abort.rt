@@ -1,11 +1,12 @@
-// The codes of an SDO abort, in document 01's order.
+// The codes of an SDO abort.
 pub use dictionary::LIMITS_CROSSED;
 pub use dictionary::LOCKED_NOW;
 pub use dictionary::NO_OBJECT;
 pub use dictionary::NO_SUB_INDEX;
 pub use dictionary::NO_SUCH_CHOICE;
 pub use dictionary::READ_ONLY_ENTRY;
+pub use dictionary::TOO_FEW_BYTES;
 pub use dictionary::TOO_HIGH;
 pub use dictionary::TOO_LOW;
+pub use dictionary::TOO_MANY_BYTES;
 pub use dictionary::UNKNOWN_COMMAND;
-pub use dictionary::WRONG_SIZE;

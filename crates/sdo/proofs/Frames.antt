@@ -1,14 +1,17 @@
 -- The service reads from a built request what was put in. Of a request's eight bytes the index has two and the number four, and each is made of its bytes again.
-use mathlib.Core.Path.{_≡_, refl, ap}
-use mathlib.Core.Bool.{false}
-use mathlib.Core.List.{[], _∷_}
-use Prim.Native.Nat.{ℕ, zero, suc, _+_, _*_, _%_, _/_, _≤_, _<_}
+use mathlib.Core.Path.{_≡_, refl, sym, _∙_}
+use mathlib.Core.Bool.{true}
+use Prim.Native.Nat.{ℕ, zero, suc, _%_, _/_, _≤_, _<_}
 use native.Mathlib.Omega.{arith}
+use borrow.Author.Tests.{eqb-true}
+use lib.Dec.{eqb}
 use lib.ListN.{length}
-use Rattle.coding.specs.Bytes.{byteOf, twoOf, fourBytes, fourOf}
+use Rattle.integers.proofs.Cases.{by-test, apart}
+use Rattle.coding.specs.Bytes.{twoOf, fourBytes}
 use Rattle.coding.proofs.Bytes.{four-back}
 use Rattle.sdo.specs.Frames.{FRAME, requestOf, asksOf, frameOf, readRequest, writeCommand, writeRequest}
 use Rattle.sdo.specs.declared.Request.{Request}
+use Rattle.sdo.specs.declared.Asks.{Asks}
 use Rattle.sdo.specs.declared.Asks.the-variants.{Reads, Writes}
 
 -- the parts of a request
@@ -48,3 +51,25 @@ write-request-asks (suc (suc zero)) h k = refl
 write-request-asks (suc (suc (suc zero))) h k = refl
 write-request-asks (suc (suc (suc (suc zero)))) h k = refl
 write-request-asks (suc (suc (suc (suc (suc size))))) h k = absurd (omega arith)
+
+-- and a command byte that asks for a write is the one of its size
+pub asks-write : (command size : ℕ) → asksOf command ≡ Writes size → (command ≡ writeCommand size) × (0 < size) × (size ≤ 4)
+unfolding asksOf writeCommand
+asks-write command size =
+    by-test P (eqb command 0x40) (λ t e. apart (cc))
+    (λ _. by-test P (eqb command 0x2F) (λ t. of 1 0x2F t refl (omega arith) (omega arith))
+    (λ _. by-test P (eqb command 0x2B) (λ t. of 2 0x2B t refl (omega arith) (omega arith))
+    (λ _. by-test P (eqb command 0x27) (λ t. of 3 0x27 t refl (omega arith) (omega arith))
+    (λ _. by-test P (eqb command 0x23) (λ t. of 4 0x23 t refl (omega arith) (omega arith)) (λ t e. apart (cc))))))
+  where
+    Sized : ℕ → Type 0
+    Sized n = (command ≡ writeCommand n) × (0 < n) × (n ≤ 4)
+
+    P : Asks → Type 0
+    P a = a ≡ Writes size → Sized size
+
+    of : (n byte : ℕ) → eqb command byte ≡ true → writeCommand n ≡ byte → 0 < n → n ≤ 4 → P (Writes n)
+    of n byte t w h k e =
+        let same : n ≡ size = cc in
+        let sized : Sized n = (eqb-true command byte t ∙ sym w, h, k) in
+        rw same at sized

@@ -80,10 +80,11 @@ write-value-spec =
     tie.close
     (tie.spec
     (λ c. rw (rw (c .before .before .pre .looked) at (c .if1 .taken)))
+    (λ c asked. search needs)
     (λ c.
-    let w = c .before .before in
+    let w = c .before .before .before in
     let row = w .before .before .pre .looked in
-    rw (rw row at (w .if1 .left), rw row at (ne-eqb _ _ (c .if2 .taken))))
+    rw (rw row at (w .if1 .left), rw row at (ne-eqb _ _ (c .before .if2 .taken)), rw row at (c .size-code .ensures)))
     (λ c κs. search needs)
     (λ c κs. search needs)
     (λ c.

@@ -1,0 +1,106 @@
+-- Where an abort comes from. Each test of the order gives its code or passes on; so what holds of the fifth place's abort where sizes differ, of an abort with another place's code, and of all that is not aborted holds of every decision.
+use mathlib.Core.Bool.{Bool, true, false, not}
+use mathlib.Core.List.{List, [], _∷_}
+use mathlib.Core.Logic.{_≢_}
+use mathlib.Core.Path.{_≡_, refl}
+use Prim.Native.Nat.{ℕ, _<_}
+use native.Mathlib.Omega.{arith}
+use borrow.Author.Tests.{eqb-false, ne-eqb, lt-ltb, le-ltb, not-true, not-false}
+use lib.Dec.{eqb}
+use lib.IntN.{ℤ}
+use lib.Signed.{ltZ}
+use Rattle.integers.specs.Words.{_among_}
+use Rattle.integers.proofs.Cases.{by-test}
+use Rattle.objects.specs.Places.{WRITABLE}
+use Rattle.objects.specs.Table.{rowAt}
+use Rattle.objects.specs.Lookup.{placeOf, entryAt}
+use Rattle.objects.specs.declared.Place.{Place}
+use Rattle.objects.specs.declared.Place.the-variants.{At, Nowhere}
+use Rattle.objects.specs.declared.Entry.{Entry}
+use Rattle.objects.specs.declared.Entry.the-variants.{Value, Fixed, Missing}
+use Rattle.objects.proofs.Rules.{writable-below}
+use Rattle.device.specs.declared.Device.{Device}
+use Rattle.dictionary.specs.Aborts.{UNKNOWN-COMMAND, NO-OBJECT, NO-SUB-INDEX, READ-ONLY-ENTRY, TOO-MANY-BYTES, TOO-FEW-BYTES, TOO-HIGH, TOO-LOW, NO-SUCH-CHOICE, LIMITS-CROSSED, LOCKED-NOW}
+use Rattle.dictionary.specs.Named.{Named, value, byte, nothing, entered, located, named}
+use Rattle.dictionary.specs.Decide.{sizeCode, rangeCode, crosses, isLocked, verdictOn, readOf, readDecision, writeOf, writeDecision}
+use Rattle.dictionary.specs.declared.Decision.{Decision}
+use Rattle.dictionary.specs.declared.Decision.the-variants.{Read, Write, Abort}
+use Rattle.dictionary.proofs.Laws.{InTable, named-in-table}
+
+-- a code of another place than the fifth
+abbrev pub OTHERS : List ℕ
+OTHERS = UNKNOWN-COMMAND ∷ NO-OBJECT ∷ NO-SUB-INDEX ∷ READ-ONLY-ENTRY ∷ TOO-HIGH ∷ TOO-LOW ∷ NO-SUCH-CHOICE ∷ LIMITS-CROSSED ∷ LOCKED-NOW ∷ []
+
+abbrev pub Other : ℕ → Type 0
+Other code = code among OTHERS ≡ true
+
+-- ---- the fifth place's code says which way the sizes differ
+
+pub code-of-more : {has sent : ℕ} → has < sent → sizeCode has sent ≡ TOO-MANY-BYTES
+code-of-more {has} {sent} h = rw (lt-ltb has sent h)
+
+pub code-of-fewer : {has sent : ℕ} → sent < has → sizeCode has sent ≡ TOO-FEW-BYTES
+code-of-fewer {has} {sent} h = rw (le-ltb has sent (omega arith))
+
+-- ---- the verdict on a write
+
+-- the fifth place is met where the object can be written and the sizes differ, whatever the value is
+pub size-aborts : (d : Device) (place size : ℕ) (x : ℤ) → rowAt place .writable ≡ true → rowAt place .size ≢ size → verdictOn d place size x ≡ Abort (sizeCode (rowAt place .size) size)
+unfolding verdictOn
+size-aborts d place size x w n = rw (w, ne-eqb (rowAt place .size) size n)
+
+-- a choice's code is another place's too
+range-other : (choice : Bool) (code : ℕ) → Other code → Other (rangeCode choice code)
+range-other true code h = refl
+range-other false code h = h
+
+-- and nowhere else
+by-verdict : (P : Decision → Type 0) (d : Device) (place size : ℕ) (x : ℤ) → (rowAt place .writable ≡ true → rowAt place .size ≢ size → P (Abort (sizeCode (rowAt place .size) size))) → ((code : ℕ) → Other code → P (Abort code)) → P (Write place x) → P (verdictOn d place size x)
+unfolding verdictOn
+by-verdict P d place size x differ other written =
+    let row = rowAt place in
+    by-test P (not (row .writable)) (λ w. other READ-ONLY-ENTRY refl)
+    (λ w. by-test P (not (eqb (row .size) size)) (λ n. differ (not-false _ w) (eqb-false _ _ (not-true _ n)))
+    (λ n. by-test P (ltZ (row .high) x) (λ h. other _ (range-other (row .choice) TOO-HIGH refl))
+    (λ h. by-test P (ltZ x (row .low)) (λ l. other _ (range-other (row .choice) TOO-LOW refl))
+    (λ l. by-test P (crosses d place x) (λ c. other LIMITS-CROSSED refl)
+    (λ c. by-test P (isLocked (row .lock) (d .state)) (λ k. other LOCKED-NOW refl) (λ k. written))))))
+
+-- ---- decisions
+
+-- what names nothing has another place's code
+abbrev Unnamed : Named → Type 0
+Unnamed (value place) = Unit {0}
+Unnamed (byte number) = Unit {0}
+Unnamed (nothing code) = Other code
+
+entered-unnamed : (place : ℕ) (entry : Entry) → Unnamed (entered place entry)
+entered-unnamed place Value = tt
+entered-unnamed place (Fixed number) = tt
+entered-unnamed place Missing = refl
+
+named-unnamed : (index sub : ℕ) → Unnamed (named index sub)
+unfolding named
+named-unnamed index sub = by (placeOf index)
+  where
+    by : (p : Place) → Unnamed (located p sub)
+    by (At place) = entered-unnamed place (entryAt (rowAt place .entries) sub)
+    by Nowhere = refl
+
+pub by-read : (P : Decision → Type 0) (d : Device) (index sub : ℕ) → ((code : ℕ) → Other code → P (Abort code)) → ((size number : ℕ) → P (Read size number)) → P (readDecision d index sub)
+unfolding readDecision readOf
+by-read P d index sub other done = by (named index sub) (named-unnamed index sub)
+  where
+    by : (n : Named) → Unnamed n → P (readOf d n)
+    by (value place) u = done _ _
+    by (byte number) u = done 1 number
+    by (nothing code) u = other code u
+
+pub by-write : (P : Decision → Type 0) (d : Device) (index sub size number : ℕ) → ((place : ℕ) → named index sub ≡ value place → place < WRITABLE → rowAt place .size ≢ size → P (Abort (sizeCode (rowAt place .size) size))) → ((code : ℕ) → Other code → P (Abort code)) → ((place : ℕ) (x : ℤ) → P (Write place x)) → P (writeDecision d index sub size number)
+unfolding writeDecision writeOf
+by-write P d index sub size number differ other done = by (named index sub) refl (named-in-table index sub) (named-unnamed index sub)
+  where
+    by : (n : Named) → named index sub ≡ n → InTable n → Unnamed n → P (writeOf d size number n)
+    by (value place) f h u = by-verdict P d place size _ (λ w n. differ place f (writable-below place h w) n) other (done place _)
+    by (byte fixed) f h u = other READ-ONLY-ENTRY refl
+    by (nothing code) f h u = other code u
