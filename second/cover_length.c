@@ -5,7 +5,8 @@
 enum length_way { TOO_LONG, TOO_SHORT, LENGTH_WAYS };
 static const char *const way_names[LENGTH_WAYS] = {"too-long", "too-short"};
 
-/* Written out, not the model's names: a wrong number there leaves items missing. */
+/* Written out, as sizes and crossed limits are worked out below, and not taken from the model:
+ * a mistake there leaves items missing. */
 static const uint32_t way_codes[LENGTH_WAYS] = {0x06070012, 0x06070013};
 
 enum { SIZE_MOST = 4 };

@@ -27,12 +27,17 @@ use Rattle.dictionary.specs.declared.Decision.{Decision}
 use Rattle.dictionary.specs.declared.Decision.the-variants.{Read, Write, Abort}
 use Rattle.dictionary.proofs.Laws.{InTable, named-in-table}
 
--- a code of another place than the fifth
+-- the codes of the other places
 abbrev pub OTHERS : List ℕ
 OTHERS = UNKNOWN-COMMAND ∷ NO-OBJECT ∷ NO-SUB-INDEX ∷ READ-ONLY-ENTRY ∷ TOO-HIGH ∷ TOO-LOW ∷ NO-SUCH-CHOICE ∷ LIMITS-CROSSED ∷ LOCKED-NOW ∷ []
 
 abbrev pub Other : ℕ → Type 0
 Other code = code among OTHERS ≡ true
+
+-- a choice's code is one of them too
+range-other : (choice : Bool) (code : ℕ) → Other code → Other (rangeCode choice code)
+range-other true code h = refl
+range-other false code h = h
 
 -- ---- the fifth place's code says which way the sizes differ
 
@@ -49,12 +54,7 @@ pub size-aborts : (d : Device) (place size : ℕ) (x : ℤ) → rowAt place .wri
 unfolding verdictOn
 size-aborts d place size x w n = rw (w, ne-eqb (rowAt place .size) size n)
 
--- a choice's code is another place's too
-range-other : (choice : Bool) (code : ℕ) → Other code → Other (rangeCode choice code)
-range-other true code h = refl
-range-other false code h = h
-
--- and nowhere else
+-- and nowhere else: a verdict is that abort, an abort with another place's code, or the write
 by-verdict : (P : Decision → Type 0) (d : Device) (place size : ℕ) (x : ℤ) → (rowAt place .writable ≡ true → rowAt place .size ≢ size → P (Abort (sizeCode (rowAt place .size) size))) → ((code : ℕ) → Other code → P (Abort code)) → P (Write place x) → P (verdictOn d place size x)
 unfolding verdictOn
 by-verdict P d place size x differ other written =

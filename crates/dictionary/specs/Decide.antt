@@ -28,7 +28,7 @@ readDecision d index sub = readOf d (named index sub)
 
 -- ---- a write
 
--- place 5: more bytes were sent than the type has, or fewer
+-- place 5, where the sizes differ: more bytes were sent than the type has, or fewer
 abbrev pub sizeCode : ℕ → ℕ → ℕ
 sizeCode has sent = if has below sent then TOO-MANY-BYTES else TOO-FEW-BYTES
 

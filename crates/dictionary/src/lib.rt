@@ -137,7 +137,7 @@ fn is_locked(lock: u8, state: u8) -> bool
     lock == WHILE_ACTIVE && state == ACTIVE
 }
 
-// A size that differs from the type's: which way it differs has a code of its own.
+// Where the size differs from the type's: one code for too many bytes, one for too few.
 fn size_code(has: u8, sent: u8) -> u32
     ensures { λ r. ⌜ r ≡ sizeCode has sent ⌝ }
 {

@@ -110,7 +110,7 @@ sdo-refused : (d : Device) (request room : List ℕ) → number (sdo request roo
 unfolding sdoRoom repliedIn
 sdo-refused d request room h =
     let k = by-sdo (λ a. numberHandedBack (a .outcome) ≢ 0 → (a .device ≡ d) × (isDue (a .outcome) ≡ false)) d request (length room)
-    (λ n g. (refl, refl)) (λ g. absurd (g (served-number d (requestOf request)))) h in
+    (λ n g. (refl, refl)) (λ l g. absurd (g (served-number d (requestOf request)))) h in
     (k .0, rw (k .1))
 
 -- a call that changes the device, and is refused by 1 alone

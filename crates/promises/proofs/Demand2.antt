@@ -41,8 +41,6 @@ use Rattle.image.proofs.Lengths.{sized}
 use Rattle.image.proofs.LowBytes.{number-from-bytes}
 use Rattle.sdo.specs.Frames.{FRAME, asksOf, readReply, frameOf, repliedIn}
 use Rattle.sdo.specs.Serve.{answer, decisionOn, outcomeOf, served}
-use Rattle.sdo.specs.declared.Asks.{Asks}
-use Rattle.sdo.specs.declared.Asks.the-variants.{Reads, Writes, Unknown}
 use Rattle.sdo.specs.declared.Request.{Request}
 use Rattle.sdo.specs.declared.Answer.{Answer}
 use Rattle.sdo.specs.declared.Outcome.the-variants.{Written}
@@ -52,27 +50,12 @@ use Rattle.rainsheave.proofs.Promises.{sdo-unchanged, control-is-a-write}
 use Rattle.rainsheave.proofs.Images.{round-trip, store-leaves-image}
 use Rattle.promises.specs.Calls.{sdo, status, asked, told, after}
 use Rattle.promises.specs.Demand2.{Data, list, frame, writes, valueSub, writing, reading, acknowledgement, telling, isLockable, Allowed, written, Kept, statusIn, Demand2}
-use Rattle.promises.proofs.Requests.{writes-no-abort, is-named, request, frame-read, frame-answered, frame-replied}
+use Rattle.promises.proofs.Requests.{row-asks, writes-no-client-abort, is-named, request, frame-read, frame-answered, frame-replied}
 use Rattle.promises.proofs.Moves.{moved, word-stored, cleared, to-fault, first-code, word-kept}
 
--- ---- rules of the rows, each by a test that is computed
-
-abbrev isWrites : Asks → ℕ → Bool
-isWrites Reads n = false
-isWrites (Writes size) n = size is n
-isWrites Unknown n = false
-
-is-writes : (a : Asks) (n : ℕ) → isWrites a n ≡ true → a ≡ Writes n
-is-writes Reads n e = clash e refl
-is-writes (Writes size) n e = ap Writes (eqb-true size n e)
-is-writes Unknown n e = clash e refl
+-- ---- the lock of the rows, by a test that is computed
 
 module _ (place : ℕ) (h : place < ROWS) where
-  -- the command byte asks for a write of the row's size
-  asks : asksOf (writes (rowAt place .size)) ≡ Writes (rowAt place .size)
-  unfolding each objects asksOf
-  asks = is-writes _ _ (each-at ROWS (λ k. isWrites (asksOf (writes (rowAt k .size))) (rowAt k .size)) place refl h)
-
   -- the lock is on the objects that the paper names
   lock : (rowAt place .lock is WHILE-ACTIVE) ≡ isLockable (rowAt place .index)
   unfolding each objects
@@ -116,7 +99,7 @@ module _ {d : Device} {place : ℕ} {x : ℤ} {b : Data} (a : Allowed d place x 
   -- it is decided to be written
   decided : decisionOn d (request (writes (rowAt place .size)) (rowAt place .index) (valueSub place) b) ≡ Write place x
   unfolding decisionOn writeDecision writeOf
-  decided = rw (asks place in-table, is-named place in-table, stands) (is-accepted accept)
+  decided = rw (row-asks place, is-named place in-table, stands) (is-accepted accept)
 
   abbrev q : Request
   q = request (writes (rowAt place .size)) (rowAt place .index) (valueSub place) b
@@ -127,11 +110,11 @@ module _ {d : Device} {place : ℕ} {x : ℤ} {b : Data} (a : Allowed d place x 
 
   module _ (room : List ℕ) (h : FRAME ≤ length room) where
     answered : sdoAnswer d (writing place (list b)) (length room) ≡ answer Written (writtenTo place x d)
-    answered = frame-answered (a .sound) _ _ _ b (length room) (writes-no-abort (rowAt place .size)) h ∙ write-served
+    answered = frame-answered (a .sound) _ _ _ b (length room) (writes-no-client-abort (rowAt place .size)) h ∙ write-served
 
     replied : sdoRoom d (writing place (list b)) room ≡ acknowledgement place ++ drop FRAME room
     unfolding repliedIn frameOf fourBytes
-    replied = frame-replied (a .sound) _ _ _ b room (writes-no-abort (rowAt place .size)) h ∙ rw write-served
+    replied = frame-replied (a .sound) _ _ _ b room (writes-no-client-abort (rowAt place .size)) h ∙ rw write-served
 
   after-sound : Sound (writtenTo place x d)
   after-sound = written-sound (a .sound) place (rowAt place .size) x (a .writable) accept

@@ -118,7 +118,7 @@ module _ (d : Device) where
   sdo-keeps request room h =
       by-cases (isWritten (sdoAnswer d request (length room) .outcome))
       (λ w. by-sdo (λ a. a .outcome ≡ Written → SameSettings (a .device) d) d request (length room) (λ n e. same)
-      (control-keeps (requestOf request) (eqb-true (requestOf request .index) 0x6040 (not-false _ (rw w at h)))) (is-written _ w))
+      (λ l. control-keeps (requestOf request) (eqb-true (requestOf request .index) 0x6040 (not-false _ (rw w at h)))) (is-written _ w))
       (λ w. rw (sdo-unchanged d request (length room) (λ f. clash (rw f) w)) same)
 
   abbrev Keeps : Change → Type 0

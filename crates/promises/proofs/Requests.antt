@@ -19,6 +19,7 @@ use Rattle.coding.specs.Bytes.{byteAt, twoOf, fourOf}
 use Rattle.device.specs.Sound.{Sound}
 use Rattle.device.specs.declared.Device.{Device}
 use Rattle.dictionary.specs.Named.{value, named}
+use Rattle.image.proofs.Lengths.{Sized, one, two, four, sized}
 use Rattle.sdo.specs.Frames.{FRAME, requestOf, asksOf, writeCommand, repliedIn}
 use Rattle.sdo.specs.Serve.{served}
 use Rattle.sdo.specs.declared.Asks.the-variants.{Writes}
@@ -33,9 +34,18 @@ pub writes-asks : (size : ℕ) → 1 ≤ size → size ≤ 4 → asksOf (writes 
 unfolding writeCommand
 writes-asks size h k = write-request-asks size h k
 
--- none is a client abort
-pub writes-no-abort : (size : ℕ) → isClientAbort (writes size) ≡ false
-writes-no-abort size = by-test P (size is 1) (λ e. refl) (λ e. by-test P (size is 2) (λ e. refl) (λ e. by-test P (size is 3) (λ e. refl) (λ e. refl)))
+-- and of a row's size
+pub row-asks : (place : ℕ) → asksOf (writes (rowAt place .size)) ≡ Writes (rowAt place .size)
+row-asks place = of (sized place)
+  where
+    of : {n : ℕ} → Sized n → asksOf (writes n) ≡ Writes n
+    of {n} (one e) = writes-asks n (omega arith) (omega arith)
+    of {n} (two e) = writes-asks n (omega arith) (omega arith)
+    of {n} (four e) = writes-asks n (omega arith) (omega arith)
+
+-- none is that of a client's abort
+pub writes-no-client-abort : (size : ℕ) → isClientAbort (writes size) ≡ false
+writes-no-client-abort size = by-test P (size is 1) (λ e. refl) (λ e. by-test P (size is 2) (λ e. refl) (λ e. by-test P (size is 3) (λ e. refl) (λ e. refl)))
   where
     P : ℕ → Type 0
     P command = isClientAbort command ≡ false

@@ -1,19 +1,17 @@
 -- The length of a write. A request that comes to the fifth place with sizes that differ is aborted there; and an abort with one of that place's codes comes from no other request, since every other abort has another place's code.
-use mathlib.Core.Bool.{true, false, not}
+use mathlib.Core.Bool.{true, false}
 use mathlib.Core.List.{List, [], _∷_, _++_}
 use mathlib.Core.Logic.{_≢_}
 use mathlib.Core.Path.{_≡_, refl, sym, ap, _∙_}
 use Prim.Native.Nat.{ℕ, _≤_, _<_}
 use native.Mathlib.Omega.{arith}
-use borrow.Author.Tests.{eqb-true, not-false}
-use lib.Dec.{eqb}
 use lib.ListN.{length, take, drop}
 use Rattle.integers.specs.Words.{if_then_else_, _is_, _among_}
-use Rattle.integers.proofs.Cases.{by-cases, by-test, by-less, apart, clash}
+use Rattle.integers.proofs.Cases.{by-cases, by-less, apart, clash}
 use Rattle.objects.specs.Places.{WRITABLE}
 use Rattle.objects.specs.Table.{rowAt}
 use Rattle.coding.specs.Bytes.{byteAt, fourBytes}
-use Rattle.device.specs.Sound.{soundDevice, Sound}
+use Rattle.device.specs.Sound.{Sound}
 use Rattle.device.specs.declared.Device.{Device}
 use Rattle.dictionary.specs.Aborts.{TOO-MANY-BYTES, TOO-FEW-BYTES}
 use Rattle.dictionary.specs.Named.{value}
@@ -23,7 +21,6 @@ use Rattle.image.proofs.Lengths.{Sized, one, two, four, sized}
 use Rattle.sdo.specs.Frames.{FRAME, requestOf, asksOf, writeCommand, frameOf, repliedIn}
 use Rattle.sdo.specs.Serve.{served}
 use Rattle.sdo.specs.declared.Asks.the-variants.{Writes}
-use Rattle.sdo.specs.declared.Answer.{Answer}
 use Rattle.sdo.specs.declared.Outcome.{Outcome}
 use Rattle.sdo.specs.declared.Outcome.the-variants.{Abort}
 use Rattle.sdo.proofs.Frames.{asks-write}
@@ -33,7 +30,7 @@ use Rattle.rainsheave.proofs.Promises.{by-sdo}
 use Rattle.promises.specs.Names.{ABORTS}
 use Rattle.promises.specs.Demand2.{Data, list, frame, valueSub}
 use Rattle.promises.specs.WriteLength.{indexIn, subIn, Sends, TooMany, TooFew, Aborted, WriteLength}
-use Rattle.promises.proofs.Requests.{writes-asks, writes-no-abort, is-named, answered, index-back}
+use Rattle.promises.proofs.Requests.{writes-asks, writes-no-client-abort, is-named, answered, index-back}
 
 -- ---- where sizes differ, the fifth place is met
 
@@ -48,7 +45,7 @@ module _ {request : List ℕ} {place size : ℕ} (w : Sends request place size) 
 
   aborted : {d : Device} → Sound d → (room : List ℕ) → FRAME ≤ length room → (code : ℕ) → sizeCode (rowAt place .size) size ≡ code → Aborted d request room code (fourBytes code)
   aborted {d} s room h code c =
-      let answer = answered s request (length room) (w .long) (rw (w .command) (writes-no-abort size)) h in
+      let answer = answered s request (length room) (w .long) (rw (w .command) (writes-no-client-abort size)) h in
       let e : sdoAnswer d request (length room) .outcome ≡ Abort code = rw (answer, meets-aborts d (requestOf request) place size meets, c) in
       record { outcome = e; reply = abort-replied d request room code e }
 
@@ -61,16 +58,6 @@ unfolding fourBytes
 too-few d request room s h w = let fewer = w .fewer in aborted (w .sends) (λ e. omega arith) s room h TOO-FEW-BYTES (code-of-fewer fewer)
 
 -- ---- and nowhere else
-
--- what is aborted has eight bytes
-aborted-long : (d : Device) (request : List ℕ) (room code : ℕ) → sdoAnswer d request room .outcome ≡ Abort code → length request ≡ FRAME
-unfolding sdoAnswer
-aborted-long d request room code =
-    by-test P (not (soundDevice d)) (λ t e. apart (cc))
-    (λ t. by-test P (not (eqb (length request) FRAME)) (λ l e. apart (cc)) (λ l e. eqb-true _ _ (not-false _ l)))
-  where
-    P : Answer → Type 0
-    P a = a .outcome ≡ Abort code → length request ≡ FRAME
 
 -- the write that was aborted at the fifth place
 record Fifth (request : List ℕ) (code : ℕ) : Type 0 where
@@ -87,16 +74,13 @@ sent {request} {place} {size} l m =
     record { long = l; least = c .1; most = c .2; command = c .0; names = m .found; writable = m .below }
 
 fifth : (d : Device) (request : List ℕ) (room code : ℕ) → code among OTHERS ≡ false → sdoAnswer d request room .outcome ≡ Abort code → Fifth request code
-fifth d request room code n e = by-sdo (λ a. P (a .outcome)) d request room (λ k f. apart (cc)) served-fifth e
+fifth d request room code n = by-sdo (λ a. P (a .outcome)) d request room (λ k f. apart (cc)) served-fifth
   where
     P : Outcome → Type 0
     P o = o ≡ Abort code → Fifth request code
 
-    l : length request ≡ FRAME
-    l = aborted-long d request room code e
-
-    served-fifth : P (served d (requestOf request) .outcome)
-    served-fifth =
+    served-fifth : length request ≡ FRAME → P (served d (requestOf request) .outcome)
+    served-fifth l =
         by-outcome P d (requestOf request)
         (λ place size m f. record { place = place; size = size; sends = sent l m; differs = m .differs; told = cc })
         (λ k o f. let same : k ≡ code = cc in clash (rw same at o) n)
@@ -123,17 +107,18 @@ was-too-few d request room e =
     let f = fifth d request room TOO-FEW-BYTES refl e in
     by-way f (λ h. let same = more-told f h in absurd (omega arith)) (λ h. record { place = f .place; size = f .size; sends = f .sends; fewer = h })
 
--- a request comes to the fifth place with one object and one size
-same-write : {request : List ℕ} {p q n m : ℕ} → Sends request p n → Sends request q m → (p ≡ q) × (n ≡ m)
-same-write {p} {q} {n} {m} s t =
+-- a request comes to the fifth place with one object and one size, so of one that has the right size no other is told
+right-size : {request : List ℕ} {p q n : ℕ} → Sends request p (rowAt p .size) → Sends request q n → rowAt q .size ≡ n
+right-size {p} {q} {n} s t =
     let found : value p ≡ value q = sym (s .names) ∙ t .names in
-    let asked : Writes n ≡ Writes m = sym (writes-asks n (s .least) (s .most)) ∙ ap asksOf (sym (s .command) ∙ t .command) ∙ writes-asks m (t .least) (t .most) in
-    (cc, cc)
+    let place : p ≡ q = cc in
+    let asked : Writes (rowAt p .size) ≡ Writes n = sym (writes-asks _ (s .least) (s .most)) ∙ ap asksOf (sym (s .command) ∙ t .command) ∙ writes-asks n (t .least) (t .most) in
+    rw (← place) (cc)
 
 right-length : (d : Device) (request : List ℕ) (place room : ℕ) → Sends request place (rowAt place .size) → (sdoAnswer d request room .outcome ≢ Abort 0x06070012) × (sdoAnswer d request room .outcome ≢ Abort 0x06070013)
 right-length d request place room s = (
-  λ e. let w = was-too-many d request room e in let same = same-write s (w .sends) in let h : rowAt place .size < rowAt place .size = rw (← same .0, ← same .1) at (w .more) in omega arith,
-  λ e. let w = was-too-few d request room e in let same = same-write s (w .sends) in let h : rowAt place .size < rowAt place .size = rw (← same .0, ← same .1) at (w .fewer) in omega arith,
+  λ e. let w = was-too-many d request room e in let same = right-size s (w .sends) in let more = w .more in omega arith,
+  λ e. let w = was-too-few d request room e in let same = right-size s (w .sends) in let fewer = w .fewer in omega arith,
 )
 
 -- ---- three bytes
@@ -188,6 +173,7 @@ write-length =
       was-too-few = was-too-few;
       right-length = right-length;
       three-bytes = three-bytes;
+      replied = abort-replied;
       codes = codes;
       retired = λ d request room e. clash (codes d request room 0x06070010 e) refl;
     }

@@ -1,10 +1,10 @@
--- The paper's numbers by their names, each as document 01 prints it: indexes, tags, entries of a time, states, status words, abort codes, numbers handed back.
+-- The paper's numbers by their names, each as document 01 prints it: indexes, sizes, tags, entries of a time, states, status words, abort codes, numbers handed back.
 use mathlib.Core.List.{List, [], _∷_, map}
 use mathlib.Core.Path.{_≡_}
 use Prim.Native.Nat.{ℕ, _-_}
 use Rattle.objects.specs.Places.{HOLD-SET-POINT, UPPER-LIMIT, LOWER-LIMIT, SCALING-FACTOR, SCALING-OFFSET, ZERO-CORRECTION, RAMP-TYPE}
 use Rattle.objects.specs.Places.{ACCELERATION, ACCELERATION-POSITIVE, ACCELERATION-NEGATIVE, DECELERATION, DECELERATION-POSITIVE, DECELERATION-NEGATIVE}
-use Rattle.objects.specs.Places.{DEAD-BAND-TYPE, A-SIDE, B-SIDE, THRESHOLD, SET-POINT, CONTROL-WORD, STATUS-WORD, ERROR-CODE, COMMAND, SETTINGS, ROWS}
+use Rattle.objects.specs.Places.{DEAD-BAND-TYPE, A-SIDE, B-SIDE, THRESHOLD, SET-POINT, CONTROL-WORD, STATUS-WORD, ERROR-CODE, COMMAND, SETTINGS, WRITABLE, ROWS}
 use Rattle.objects.specs.Table.{rowAt}
 use Rattle.objects.specs.Lookup.{SECONDS, MILLI}
 use Rattle.device.specs.States.{DISABLED, HOLD, ACTIVE, FAULT}
@@ -27,6 +27,10 @@ ABORTS =
     0x05040001 ∷ 0x06020000 ∷ 0x06090011 ∷ 0x06010002 ∷ 0x06070012 ∷ 0x06070013
     ∷ 0x06090031 ∷ 0x06090032 ∷ 0x06090030 ∷ 0x06090036 ∷ 0x08000022 ∷ []
 
+-- how many bytes the value of the object at a place has
+abbrev pub sizeAt : ℕ → ℕ
+sizeAt place = rowAt place .size
+
 pub record Names : Type 0 where
   -- which object is at which index
   pub control-word : indexAt CONTROL-WORD ≡ 0x6040
@@ -47,9 +51,21 @@ pub record Names : Type 0 where
   pub a-side : indexAt A-SIDE ≡ 0x6343
   pub b-side : indexAt B-SIDE ≡ 0x6344
   pub threshold : indexAt THRESHOLD ≡ 0x6345
-  -- how many there are, and how many are stored
+  -- how many there are, how many can be written, and how many are stored
   pub rows : ROWS ≡ 22
+  pub writable : WRITABLE ≡ 19
   pub settings : SETTINGS ≡ 17
+  -- their sizes: one byte for I8, four for U32, two for I16 and U16
+  pub of-one-byte : map sizeAt (RAMP-TYPE ∷ DEAD-BAND-TYPE ∷ []) ≡ 1 ∷ 1 ∷ []
+  pub of-four-bytes :
+      map sizeAt
+      (SCALING-FACTOR ∷ ACCELERATION ∷ ACCELERATION-POSITIVE ∷ ACCELERATION-NEGATIVE ∷ DECELERATION ∷ DECELERATION-POSITIVE ∷ DECELERATION-NEGATIVE ∷ [])
+      ≡ 4 ∷ 4 ∷ 4 ∷ 4 ∷ 4 ∷ 4 ∷ 4 ∷ []
+  pub of-two-bytes :
+      map sizeAt
+      (CONTROL-WORD ∷ STATUS-WORD ∷ ERROR-CODE ∷ SET-POINT ∷ COMMAND ∷ HOLD-SET-POINT ∷ UPPER-LIMIT ∷ LOWER-LIMIT ∷ SCALING-OFFSET
+      ∷ ZERO-CORRECTION ∷ A-SIDE ∷ B-SIDE ∷ THRESHOLD ∷ [])
+      ≡ 2 ∷ 2 ∷ 2 ∷ 2 ∷ 2 ∷ 2 ∷ 2 ∷ 2 ∷ 2 ∷ 2 ∷ 2 ∷ 2 ∷ 2 ∷ []
   -- the tags 1 to 17
   pub tags :
       map indexOfTag (1 ∷ 2 ∷ 3 ∷ 4 ∷ 5 ∷ 6 ∷ 7 ∷ 8 ∷ 9 ∷ 10 ∷ 11 ∷ 12 ∷ 13 ∷ 14 ∷ 15 ∷ 16 ∷ 17 ∷ [])

@@ -1,4 +1,5 @@
--- Wish 1 of document 02: a wrong length says which way. The fifth place of the aborts, by bytes, and what codes there are.
+-- Wish 1 of document 02: a wrong length says which way. What a sound device with room for the reply gives at the fifth place of the aborts,
+-- by bytes; and, of every device, what was written where one of its codes is given, and what codes there are.
 use mathlib.Core.Bool.{true}
 use mathlib.Core.List.{List, [], _∷_, _++_}
 use mathlib.Core.Logic.{_≢_}
@@ -8,7 +9,7 @@ use lib.ListN.{length, drop}
 use Rattle.integers.specs.Words.{if_then_else_, _is_, _among_}
 use Rattle.objects.specs.Places.{WRITABLE}
 use Rattle.objects.specs.Table.{rowAt}
-use Rattle.coding.specs.Bytes.{byteAt, twoOf}
+use Rattle.coding.specs.Bytes.{byteAt, twoOf, fourBytes}
 use Rattle.device.specs.Sound.{Sound}
 use Rattle.device.specs.declared.Device.{Device}
 use Rattle.dictionary.specs.Named.{value, named}
@@ -24,7 +25,7 @@ indexIn request = twoOf (byteAt request 1) (byteAt request 2)
 abbrev pub subIn : List ℕ → ℕ
 subIn request = byteAt request 3
 
--- a request that no place before the fifth aborts: eight bytes, a write of 1 to 4 of them, to the value of an object that can be written
+-- a write that comes to the fifth place: eight bytes, the command byte of a write of 1 to 4, the value of an object that can be written
 pub record Sends (request : List ℕ) (place size : ℕ) : Type 0 where
   pub long : length request ≡ 8
   pub least : 1 ≤ size
@@ -67,11 +68,15 @@ pub record WriteLength : Type 0 where
   pub right-length :
       (d : Device) (request : List ℕ) (place room : ℕ) → Sends request place (rowAt place .size) →
       (sdoAnswer d request room .outcome ≢ Abort 0x06070012) × (sdoAnswer d request room .outcome ≢ Abort 0x06070013)
-  -- three bytes, 27h, are too few for an object of four and too many for every other
+  -- of the objects that can be written, three bytes (27h) are too few for those of four and too many for every other
   pub three-bytes :
       (d : Device) (place : ℕ) (b : Data) (room : List ℕ) → Sound d → place < WRITABLE → 8 ≤ length room →
       sdoRoom d (frame 0x27 (rowAt place .index) (valueSub place) (list b)) room
       ≡ frame 0x80 (rowAt place .index) (valueSub place) ((if rowAt place .size is 4 then 0x13 else 0x12) ∷ 0x00 ∷ 0x07 ∷ 0x06 ∷ []) ++ drop 8 room
+  -- the reply to every abort is 80h, index, sub, the code low first; later bytes stay
+  pub replied :
+      (d : Device) (request room : List ℕ) (code : ℕ) → sdoAnswer d request (length room) .outcome ≡ Abort code →
+      sdoRoom d request room ≡ frame 0x80 (indexIn request) (subIn request) (fourBytes code) ++ drop 8 room
   -- every abort has one of the eleven codes
   pub codes : (d : Device) (request : List ℕ) (room code : ℕ) → sdoAnswer d request room .outcome ≡ Abort code → code among ABORTS ≡ true
   -- so 06070010h is given nowhere

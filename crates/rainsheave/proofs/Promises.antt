@@ -5,7 +5,7 @@ use mathlib.Core.Logic.{_≢_}
 use mathlib.Core.Path.{_≡_, refl}
 use Prim.Native.Nat.{ℕ, _<_, _%_}
 use native.Mathlib.Omega.{arith}
-use borrow.Author.Tests.{eqb-false}
+use borrow.Author.Tests.{eqb-true, eqb-false, not-false}
 use lib.Dec.{eqb, ltb}
 use lib.IntN.{pos}
 use lib.ListN.{length}
@@ -37,18 +37,18 @@ use Rattle.rainsheave.specs.declared.Change.{Change}
 
 -- ---- a refusal leaves everything as it was
 
--- what holds of a refusal, which hands the device back, and of what is served holds of the answer
-pub by-sdo : (P : Answer → Type 0) (d : Device) (request : List ℕ) (room : ℕ) → ((number : ℕ) → P (answer (Refused number) d)) → P (served d (requestOf request)) → P (sdoAnswer d request room)
+-- what holds of a refusal, which hands the device back, and of what is served, to eight bytes, holds of the answer
+pub by-sdo : (P : Answer → Type 0) (d : Device) (request : List ℕ) (room : ℕ) → ((number : ℕ) → P (answer (Refused number) d)) → (length request ≡ FRAME → P (served d (requestOf request))) → P (sdoAnswer d request room)
 unfolding sdoAnswer
 by-sdo P d request room refused done =
     by-test P (not (soundDevice d)) (λ e. refused UNSOUND)
     (λ e. by-test P (not (eqb (length request) FRAME)) (λ f. refused WRONG-LENGTH)
     (λ f. by-test P (ltb room FRAME) (λ g. refused NO-ROOM)
-    (λ g. by-test P (isClientAbort (byteAt request 0)) (λ i. refused NO-REPLY-DUE) (λ i. done))))
+    (λ g. by-test P (isClientAbort (byteAt request 0)) (λ i. refused NO-REPLY-DUE) (λ i. done (eqb-true _ _ (not-false _ f))))))
 
 -- whatever is answered but a write done, the device is the given one
 pub sdo-unchanged : (d : Device) (request : List ℕ) (room : ℕ) → sdoAnswer d request room .outcome ≢ Written → sdoAnswer d request room .device ≡ d
-sdo-unchanged d request room = by-sdo (λ a. a .outcome ≢ Written → a .device ≡ d) d request room (λ number h. refl) (not-written-unchanged d (requestOf request))
+sdo-unchanged d request room = by-sdo (λ a. a .outcome ≢ Written → a .device ≡ d) d request room (λ number h. refl) (λ l. not-written-unchanged d (requestOf request))
 
 -- and a refusal writes nothing
 pub refusal-writes-nothing : (d : Device) (request before : List ℕ) (number : ℕ) → sdoAnswer d request (length before) .outcome ≡ Refused number → sdoRoom d request before ≡ before
@@ -62,7 +62,7 @@ refused-unchanged d c = by-cases (soundDevice d) (λ e f. rw e f) (λ e f. rw e 
 -- ---- a sound device stays sound
 
 pub sdo-sound : {d : Device} → Sound d → (request : List ℕ) (room : ℕ) → Sound (sdoAnswer d request room .device)
-sdo-sound {d} s request room = by-sdo (λ a. Sound (a .device)) d request room (λ number. s) (served-sound s (requestOf request))
+sdo-sound {d} s request room = by-sdo (λ a. Sound (a .device)) d request room (λ number. s) (λ l. served-sound s (requestOf request))
 
 changed-sound : {d : Device} (c : Change) → Sound d → Sound (c .device) → Sound (changed d c .device)
 changed-sound c s h = rw (s .sound) h
