@@ -11,6 +11,7 @@ use Rattle.device.specs.States.{DISABLED, HOLD, ACTIVE, FAULT}
 use Rattle.device.specs.Queries.{STATUS-DISABLED, STATUS-HOLD, STATUS-ACTIVE, STATUS-FAULT, TARGET-MET}
 use Rattle.dictionary.specs.Aborts.{UNKNOWN-COMMAND, NO-OBJECT, NO-SUB-INDEX, READ-ONLY-ENTRY, TOO-MANY-BYTES, TOO-FEW-BYTES}
 use Rattle.dictionary.specs.Aborts.{TOO-HIGH, TOO-LOW, NO-SUCH-CHOICE, LIMITS-CROSSED, LOCKED-NOW}
+use Rattle.image.specs.Fields.{sizeAt}
 use Rattle.image.specs.Walk.{FIELD-CUT, NOT-FOUND}
 use Rattle.rainsheave.specs.Numbers.{UNSOUND, WRONG-LENGTH, NO-ROOM, NO-REPLY-DUE, NO-FAULT, NO-IMAGE-ROOM, NOT-FULL, BAD-VALUE, NOT-DISABLED}
 
@@ -26,10 +27,6 @@ abbrev pub ABORTS : List ℕ
 ABORTS =
     0x05040001 ∷ 0x06020000 ∷ 0x06090011 ∷ 0x06010002 ∷ 0x06070012 ∷ 0x06070013
     ∷ 0x06090031 ∷ 0x06090032 ∷ 0x06090030 ∷ 0x06090036 ∷ 0x08000022 ∷ []
-
--- how many bytes the value of the object at a place has
-abbrev pub sizeAt : ℕ → ℕ
-sizeAt place = rowAt place .size
 
 pub record Names : Type 0 where
   -- which object is at which index
