@@ -27,7 +27,7 @@ use Rattle.dictionary.specs.declared.Decision.{Decision}
 use Rattle.dictionary.specs.declared.Decision.the-variants.{Read, Write, Abort}
 use Rattle.dictionary.proofs.Laws.{InTable, named-in-table}
 
--- the codes of the other places
+-- the codes of all places but the fifth
 abbrev pub OTHERS : List ℕ
 OTHERS = UNKNOWN-COMMAND ∷ NO-OBJECT ∷ NO-SUB-INDEX ∷ READ-ONLY-ENTRY ∷ TOO-HIGH ∷ TOO-LOW ∷ NO-SUCH-CHOICE ∷ LIMITS-CROSSED ∷ LOCKED-NOW ∷ []
 
@@ -68,39 +68,41 @@ by-verdict P d place size x differ other written =
 
 -- ---- decisions
 
--- what names nothing has another place's code
-abbrev Unnamed : Named → Type 0
-Unnamed (value place) = Unit {0}
-Unnamed (byte number) = Unit {0}
-Unnamed (nothing code) = Other code
+-- the code with which nothing is named is another place's
+abbrev OtherCode : Named → Type 0
+OtherCode (value place) = Unit {0}
+OtherCode (byte number) = Unit {0}
+OtherCode (nothing code) = Other code
 
-entered-unnamed : (place : ℕ) (entry : Entry) → Unnamed (entered place entry)
-entered-unnamed place Value = tt
-entered-unnamed place (Fixed number) = tt
-entered-unnamed place Missing = refl
+entered-code : (place : ℕ) (entry : Entry) → OtherCode (entered place entry)
+entered-code place Value = tt
+entered-code place (Fixed number) = tt
+entered-code place Missing = refl
 
-named-unnamed : (index sub : ℕ) → Unnamed (named index sub)
+named-code : (index sub : ℕ) → OtherCode (named index sub)
 unfolding named
-named-unnamed index sub = by (placeOf index)
+named-code index sub = by (placeOf index)
   where
-    by : (p : Place) → Unnamed (located p sub)
-    by (At place) = entered-unnamed place (entryAt (rowAt place .entries) sub)
+    by : (p : Place) → OtherCode (located p sub)
+    by (At place) = entered-code place (entryAt (rowAt place .entries) sub)
     by Nowhere = refl
 
+-- a read is aborted with another place's code alone
 pub by-read : (P : Decision → Type 0) (d : Device) (index sub : ℕ) → ((code : ℕ) → Other code → P (Abort code)) → ((size number : ℕ) → P (Read size number)) → P (readDecision d index sub)
 unfolding readDecision readOf
-by-read P d index sub other done = by (named index sub) (named-unnamed index sub)
+by-read P d index sub other done = by (named index sub) (named-code index sub)
   where
-    by : (n : Named) → Unnamed n → P (readOf d n)
-    by (value place) u = done _ _
-    by (byte number) u = done 1 number
-    by (nothing code) u = other code u
+    by : (n : Named) → OtherCode n → P (readOf d n)
+    by (value place) o = done _ _
+    by (byte number) o = done 1 number
+    by (nothing code) o = other code o
 
+-- and a write at the fifth place too, where what is named can be written and the sizes differ
 pub by-write : (P : Decision → Type 0) (d : Device) (index sub size number : ℕ) → ((place : ℕ) → named index sub ≡ value place → place < WRITABLE → rowAt place .size ≢ size → P (Abort (sizeCode (rowAt place .size) size))) → ((code : ℕ) → Other code → P (Abort code)) → ((place : ℕ) (x : ℤ) → P (Write place x)) → P (writeDecision d index sub size number)
 unfolding writeDecision writeOf
-by-write P d index sub size number differ other done = by (named index sub) refl (named-in-table index sub) (named-unnamed index sub)
+by-write P d index sub size number differ other done = by (named index sub) refl (named-in-table index sub) (named-code index sub)
   where
-    by : (n : Named) → named index sub ≡ n → InTable n → Unnamed n → P (writeOf d size number n)
-    by (value place) f h u = by-verdict P d place size _ (λ w n. differ place f (writable-below place h w) n) other (done place _)
-    by (byte fixed) f h u = other READ-ONLY-ENTRY refl
-    by (nothing code) f h u = other code u
+    by : (n : Named) → named index sub ≡ n → InTable n → OtherCode n → P (writeOf d size number n)
+    by (value place) f h o = by-verdict P d place size _ (λ w n. differ place f (writable-below place h w) n) other (done place _)
+    by (byte fixed) f h o = other READ-ONLY-ENTRY refl
+    by (nothing code) f h o = other code o

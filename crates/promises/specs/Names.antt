@@ -1,4 +1,5 @@
--- The paper's numbers by their names, each as document 01 prints it: indexes, sizes, tags, entries of a time, states, status words, abort codes, numbers handed back.
+-- The paper's numbers by their names, each as document 01 prints it: indexes, sizes, tags, entries of a time, states, status words,
+-- abort codes, numbers handed back.
 use mathlib.Core.List.{List, [], _∷_, map}
 use mathlib.Core.Path.{_≡_}
 use Prim.Native.Nat.{ℕ, _-_}
