@@ -1,4 +1,4 @@
-/* `second cover`: what of document 01 an event file has reached. */
+/* `second cover`: what of document 01 and wishes 1 and 2 an event file has reached. */
 #include <inttypes.h>
 #include <stdarg.h>
 #include <stdio.h>
@@ -12,7 +12,8 @@
 static const enum abort_code abort_codes[] = {
     ABORT_COMMAND,  ABORT_NO_OBJECT, ABORT_NO_SUB_INDEX, ABORT_READ_ONLY,
     ABORT_TOO_LONG, ABORT_TOO_SHORT, ABORT_VALUE,        ABORT_TOO_HIGH,
-    ABORT_TOO_LOW,  ABORT_LIMITS,    ABORT_LOCKED,
+    ABORT_TOO_LOW,  ABORT_LIMITS,    ABORT_LOCKED,       ABORT_MAP_TOO_LONG,
+    ABORT_NOT_MAPPABLE,
 };
 enum { ABORT_CODES = sizeof abort_codes / sizeof abort_codes[0] };
 
@@ -39,7 +40,7 @@ static const char *const example_names[EXAMPLES] = {
     "fresh-40-41-60-00-gives-4B-41-60-00-08",
 };
 
-enum { SUBS = 4 };
+enum { SUBS = MAP_ENTRIES + 1 }; /* maps have the most */
 
 static struct {
     uint64_t abort[ABORT_CODES];
@@ -189,6 +190,7 @@ static void count_sdo(const struct seen *seen)
     } else {
         count_read(seen, object);
     }
+    count_map_request(seen);
     count_exchanges(seen);
 }
 
@@ -203,9 +205,11 @@ static void count_event(const struct seen *seen)
     if (hands_number(record->kind))
         counts.number[seen->outcome->number]++;
     count_image_event(seen);
+    count_pdo_event(seen);
     count_refusals(seen);
     switch (record->kind) {
     case EVENT_FRESH:
+    case EVENT_RECEIVE: /* its words are counted apart */
         reset_steps = 0;
         break;
     case EVENT_SDO:
@@ -258,7 +262,8 @@ static void list_answers(void)
     for (size_t i = 0; i < ABORT_CODES; i++)
         list_item(counts.abort[i], "abort-%08" PRIX32, (uint32_t)abort_codes[i]);
     for (size_t i = 0; i < NUMBERS; i++)
-        list_item(counts.number[i], "number-%d", (int)i);
+        if (i <= TAG_NOT_FOUND || i == PDO_SHORT)
+            list_item(counts.number[i], "number-%d", (int)i);
 }
 
 static void list_transitions(void)
@@ -307,6 +312,8 @@ static void list_all(void)
     list_ramps_and_bands();
     list_entries();
     list_length_items();
+    list_map_items();
+    list_pdo_items();
     for (size_t i = 0; i < EXAMPLES; i++)
         list_item(counts.example[i], "example-%s", example_names[i]);
     list_image_items();

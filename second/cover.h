@@ -15,6 +15,8 @@ struct seen {
 
 extern const char *const state_names[STATES];
 
+enum { MAPPED_OBJECTS = 3 }; /* so many may be received, and so many sent */
+
 /* One item of the list; its name is a format of printf. */
 void list_item(uint64_t count, const char *format, ...);
 
@@ -25,6 +27,14 @@ void list_image_items(void);
 /* Writes of a wrong length; the code is that of the abort seen. */
 void count_length_abort(const struct seen *seen, const struct object *object, uint32_t code);
 void list_length_items(void);
+
+/* Maps: a request that was done, an abort included. */
+void count_map_request(const struct seen *seen);
+void list_map_items(void);
+
+/* PDOs, and events that leave the maps alone. */
+void count_pdo_event(const struct seen *seen);
+void list_pdo_items(void);
 
 /* Numbers handed back and soundness. */
 void count_refusals(const struct seen *seen);

@@ -57,8 +57,10 @@ static void count_later_reasons(const struct seen *seen, const struct object *ob
 void count_length_abort(const struct seen *seen, const struct object *object, uint32_t code)
 {
     const uint8_t *request = seen->record->bytes;
-    bool is_value = request[3] == (object->form == VARIABLE ? 0 : 1);
-    size_t own = is_value ? object_size(object) : 1;
+    bool is_map = object->form == MAP_RECORD;
+    bool is_value = is_map || request[3] == (object->form == VARIABLE ? 0 : 1);
+    bool is_byte = !is_value || (is_map && request[3] == 0);
+    size_t own = is_byte ? 1 : object_size(object);
     size_t size = announced_size(request[0]);
     if (size == 0 || size == own)
         return;

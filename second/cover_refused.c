@@ -16,6 +16,8 @@ enum order_item {
     ORDER_1_AND_FAULT_CODE_0,
     ORDER_1_AND_NOT_DISABLED,
     ORDER_1_AND_NOT_FULL,
+    ORDER_1_AND_PDO_SHORT,
+    ORDER_1_AND_SEND_ROOM,
     ORDERS
 };
 static const char *const order_names[ORDERS] = {
@@ -26,6 +28,8 @@ static const char *const order_names[ORDERS] = {
     "number-1-although-fault-code-0",
     "number-1-although-load-outside-DISABLED",
     "number-1-although-not-a-full-image",
+    "number-1-although-PDO-under-that-number-of-entries",
+    "number-1-although-room-under-that-number-of-entries",
 };
 static uint64_t order_counts[ORDERS];
 
@@ -48,7 +52,7 @@ static void count_refused_request(size_t size, size_t room, uint8_t command, uin
         size_counts[size]++;
         order_counts[ORDER_2_AND_ROOM] += short_room;
         order_counts[ORDER_2_AND_CLIENT_ABORT] += size > 0 && client_abort;
-    } else if (number == REPLY_ROOM_UNDER_EIGHT) {
+    } else if (number == ROOM_SHORT) {
         room_counts[room]++;
         order_counts[ORDER_3_AND_CLIENT_ABORT] += client_abort;
     }
@@ -84,8 +88,8 @@ static void count_fault(const struct seen *seen)
 
 /* ---- Devices that are not sound ---- */
 
-static const char *const call_names[CALLS] = {"sdo",  "control", "fault", "tick",
-                                              "jump", "store",   "load",  "query"};
+static const char *const call_names[CALLS] = {"sdo",   "control", "fault", "tick",    "jump",
+                                              "store", "load",    "query", "receive", "send"};
 static const char *const unsound_names[UNSOUND_KINDS] = {
     "state-4",        "error-code", "position-above-stroke", "setting-minus-40000",
     "limits-crossed", "position-positive-or-above-stroke",
@@ -99,6 +103,10 @@ static const char *const broken_names[BROKEN_KINDS] = {
     "position-negative-or-below-stroke",
     "set-point-above-range",
     "set-point-below-range",
+    "map-count-5",
+    "map-count-255",
+    "map-entry-of-the-other-direction",
+    "map-entry-0-counted",
     "state-255",
 };
 enum { SETTING_WAYS = BROKEN_SETTING_LEAST + 1 };
@@ -114,6 +122,9 @@ static struct {
     uint64_t call[BROKEN_KINDS][CALLS];
     uint64_t state[BROKEN_KINDS][STATES];
     uint64_t setting[SETTINGS][SETTING_WAYS];
+    uint64_t map[MAPS][BROKEN_KINDS];
+    uint64_t map_entry[MAPS][MAP_ENTRIES][BROKEN_KINDS];
+    uint64_t not_counted[MAPS]; /* an entry of the other direction that is not counted */
 } broken_counts;
 
 static bool image_is_full(const struct seen *seen)
@@ -133,12 +144,34 @@ static void count_other_reasons(const struct seen *seen, uint32_t call)
     order_counts[ORDER_1_AND_NOT_FULL] += call == CALL_LOAD && !image_is_full(seen);
 }
 
+static bool is_map_way(size_t way)
+{
+    return way >= BROKEN_MAP_COUNT_5 && way <= BROKEN_MAP_ENTRY_ZERO;
+}
+
+/* A map that should have more than four entries is longer than the eight bytes. */
+static void count_broken_map(size_t way, const struct seen *seen, uint32_t call)
+{
+    struct map_place place = broken_place(seen->record);
+    bool too_many = way == BROKEN_MAP_COUNT_5 || way == BROKEN_MAP_COUNT_255;
+    broken_counts.map[place.kind][way]++;
+    broken_counts.map_entry[place.kind][place.entry][way]++;
+    broken_counts.not_counted[place.kind] +=
+        way == BROKEN_MAP_ENTRY_OTHER && place.entry >= seen->before->map[place.kind].count;
+    order_counts[ORDER_1_AND_PDO_SHORT] +=
+        too_many && place.kind == RECEIVE_MAP && call == CALL_RECEIVE;
+    order_counts[ORDER_1_AND_SEND_ROOM] +=
+        too_many && place.kind == TRANSMIT_MAP && call == CALL_SEND;
+}
+
 static void count_broken(size_t way, const struct seen *seen, uint32_t call)
 {
     broken_counts.call[way][call]++;
     broken_counts.state[way][seen->before->state]++;
     if (way < SETTING_WAYS)
         broken_counts.setting[seen->record->word % SETTINGS][way]++;
+    if (is_map_way(way))
+        count_broken_map(way, seen, call);
 }
 
 /* Only where the call handed back 1, the device as it was, and left the room alone. */
@@ -254,6 +287,26 @@ static void list_not_sound(void)
                       (unsigned)object_of_setting(place)->index, setting_way_names[way]);
 }
 
+static void list_broken_maps(void)
+{
+    static const unsigned indexes[MAPS] = {0x1600, 0x1a00};
+    for (size_t kind = 0; kind < MAPS; kind++) {
+        list_item(broken_counts.map[kind][BROKEN_MAP_COUNT_5], "broken-%04X-count-5",
+                  indexes[kind]);
+        list_item(broken_counts.map[kind][BROKEN_MAP_COUNT_255], "broken-%04X-count-255",
+                  indexes[kind]);
+        for (size_t entry = 0; entry < MAP_ENTRIES; entry++) {
+            const uint64_t *ways = broken_counts.map_entry[kind][entry];
+            list_item(ways[BROKEN_MAP_ENTRY_OTHER], "broken-%04X-sub-%d-of-the-other-direction",
+                      indexes[kind], (int)entry + 1);
+            list_item(ways[BROKEN_MAP_ENTRY_ZERO], "broken-%04X-sub-%d-counted-and-0",
+                      indexes[kind], (int)entry + 1);
+        }
+        list_item(broken_counts.not_counted[kind], "broken-%04X-entry-that-is-not-counted",
+                  indexes[kind]);
+    }
+}
+
 static void list_sound(void)
 {
     for (size_t place = 0; place < SETTINGS; place++)
@@ -273,5 +326,6 @@ void list_refusal_items(void)
 {
     list_requests();
     list_not_sound();
+    list_broken_maps();
     list_sound();
 }

@@ -182,7 +182,7 @@ static void scene_wrong_length(struct maker *m)
 static void scene_control(struct maker *m)
 {
     uint16_t bits = (uint16_t)below(m, 16);
-    if (m->run.device.state == ACTIVE && one_in(m, 4))
+    if (m->run.device.state == ACTIVE && one_in(m, 2))
         bits |= 7; /* it stays */
     emit_control(m, bits);
 }
@@ -226,7 +226,7 @@ static void scene_fresh(struct maker *m)
 
 /* Fresh scaling, so that the targets spread over the whole stroke. The lower
  * limit comes twice: the first may cross the old upper one. */
-static void plain_scaling(struct maker *m)
+void plain_scaling(struct maker *m)
 {
     static const enum setting places[] = {LOWER_LIMIT,    UPPER_LIMIT,    LOWER_LIMIT,
                                           SCALING_FACTOR, SCALING_OFFSET, ZERO_CORRECTION};
@@ -317,7 +317,7 @@ static void move_on(struct maker *m)
 }
 
 /* A new target for the state the device is in, often on the other side. */
-static void scene_target(struct maker *m)
+void scene_target(struct maker *m)
 {
     int64_t ir = pick_ir(m);
     bool other_side = (m->run.device.position > 0) == (ir > 0);
@@ -374,6 +374,8 @@ static void scene_locked(struct maker *m)
     int64_t value = pick_edge(m, object_of_setting(place));
     emit_setting(m, place, value);
     scene_target(m);
+    if (one_in(m, 2))
+        emit_control(m, 7); /* it stays */
 }
 
 /* ---- Scenes: dead band ---- */
@@ -414,16 +416,17 @@ static void scene_unknown_kind(struct maker *m)
 
 /* ---- The file ---- */
 
+/* The scenes of one pack, each as often as told. */
 static const struct {
-    uint32_t weight;
+    uint32_t times;
     void (*play)(struct maker *m);
 } scenes[] = {
     /* SDO; a scene_wrong_length is three events and more */
-    {120, scene_write_edge},
+    {95, scene_write_edge},
     {120, scene_sweep_entries},
     {40, scene_write_size},
     {15, scene_wrong_length},
-    {120, scene_read},
+    {95, scene_read},
     {15, scene_read_command},
     {50, scene_any_command},
     {30, scene_unknown_index},
@@ -441,44 +444,64 @@ static const struct {
     {20, scene_ticks},
     {40, scene_tick},
     {40, scene_target},
-    {55, scene_ramp},
+    {45, scene_ramp},
     {10, scene_locked},
     {8, scene_dead_band},
     /* image */
     {15, scene_store},
-    {25, scene_load},
+    {30, scene_load},
     {20, scene_append},
     {24, scene_loaded_value},
-    {42, scene_damage},
+    {46, scene_damage},
     {30, scene_find},
-    /* refusals; a scene_broken is nine events and more */
-    {60, scene_wide},
+    /* refusals; a scene_broken is thirteen events and more */
+    {45, scene_wide},
     {10, scene_no_fault},
     {12, scene_unsound},
-    {20, scene_broken},
+    {18, scene_broken},
+    /* process data; a scene_process_data is some twelve events */
+    {65, scene_process_data},
+    {20, scene_any_pdo},
     /* the rest */
     {20, scene_query},
     {5, scene_unknown_kind},
 };
 enum { SCENES = sizeof scenes / sizeof scenes[0] };
 
-static void play_scene(struct maker *m)
+/* The scenes are drawn from a pack like cards, so that with every seed each comes
+ * about as often in a file, and what goes in turn is gone through. */
+struct pack {
+    uint32_t left[SCENES];
+    uint32_t total;
+};
+
+static void fill_pack(struct pack *pack)
 {
-    uint32_t total = 0;
-    for (size_t i = 0; i < SCENES; i++)
-        total += scenes[i].weight;
-    uint32_t chance = below(m, total);
+    for (size_t i = 0; i < SCENES; i++) {
+        pack->left[i] = scenes[i].times;
+        pack->total += scenes[i].times;
+    }
+}
+
+static void play_scene(struct maker *m, struct pack *pack)
+{
+    if (pack->total == 0)
+        fill_pack(pack);
+    uint32_t chance = below(m, pack->total);
     size_t scene = 0;
-    while (chance >= scenes[scene].weight)
-        chance -= scenes[scene++].weight;
+    while (chance >= pack->left[scene])
+        chance -= pack->left[scene++];
+    pack->left[scene]--;
+    pack->total--;
     scenes[scene].play(m);
 }
 
 int mode_events(uint64_t seed, uint64_t count)
 {
     struct maker maker = {.random = seed, .left = count, .run = run_begin()};
+    struct pack pack = {.total = 0};
     play_zero_image(&maker);
     while (maker.left > 0)
-        play_scene(&maker);
+        play_scene(&maker, &pack);
     return EXIT_GOOD;
 }

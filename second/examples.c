@@ -1,4 +1,5 @@
-/* `second examples`: the worked examples of document 01 as events, by hand. */
+/* `second examples`: the worked examples of document 01, and some of wish 2 of document 02, as
+ * events, by hand. */
 #include <stdio.h>
 #include <string.h>
 
@@ -51,14 +52,11 @@ static void sdo(const uint8_t request[SDO_SIZE])
     give(record);
 }
 
-/* A write of the value of an object with the size of its type. */
-static void set(uint16_t index, int64_t value)
+/* A write with the size of the entry. */
+static void set_entry(uint16_t index, uint8_t sub, uint32_t data)
 {
     static const uint8_t commands[] = {0, WRITE_1, WRITE_2, WRITE_3, WRITE_4};
-    const struct object *object = object_find(index);
-    uint32_t data = (uint32_t)value;
-    uint8_t sub = object->form == VARIABLE ? 0 : 1;
-    uint8_t request[SDO_SIZE] = {commands[object_size(object)],
+    uint8_t request[SDO_SIZE] = {commands[object_entry_size(object_find(index), sub)],
                                  (uint8_t)index,
                                  (uint8_t)(index >> 8),
                                  sub,
@@ -67,6 +65,24 @@ static void set(uint16_t index, int64_t value)
                                  (uint8_t)(data >> 16),
                                  (uint8_t)(data >> 24)};
     sdo(request);
+}
+
+/* A write of the value of an object. */
+static void set(uint16_t index, int64_t value)
+{
+    set_entry(index, object_find(index)->form == VARIABLE ? 0 : 1, (uint32_t)value);
+}
+
+static void receive(const uint8_t *pdo, uint8_t size)
+{
+    struct record record = {.kind = EVENT_RECEIVE, .small = size};
+    memcpy(record.bytes, pdo, size);
+    give(record);
+}
+
+static void send(uint16_t room)
+{
+    give((struct record){.kind = EVENT_SEND, .word = room});
 }
 
 /* A fresh device in HOLD, where the hold set point is the input. */
@@ -203,6 +219,44 @@ static void example_requests(void)
     sdo(status);
 }
 
+/* 6040h and 6300h in one PDO: twice the same leads to ACTIVE with the set point 1000. */
+static void example_receive(void)
+{
+    static const uint8_t pdo[] = {0x07, 0x00, 0xe8, 0x03, 0xff};
+    fresh();
+    receive(pdo, 0); /* a fresh map takes any PDO */
+    receive(pdo, 4);
+    set_entry(0x1600, 1, 0x60400010); /* 23 00 16 01 10 00 40 60 */
+    set_entry(0x1600, 2, 0x63000110);
+    set_entry(0x1600, 0, 2);
+    receive(pdo, 4); /* HOLD */
+    receive(pdo, 3); /* 14 */
+    receive(pdo, 5); /* ACTIVE; the first four bytes count */
+    query();         /* target 1000 */
+    set_entry(0x1600, 2, 0x63000110); /* 08000022h, although it stands there */
+    set_entry(0x1600, 0, 5);          /* 06040042h */
+    set_entry(0x1600, 0, 3);          /* 06040041h: the third is zero */
+    set_entry(0x1600, 0, 0);
+    set_entry(0x1600, 3, 0x63140010); /* 06040041h: the value is at sub-index 1 */
+    set_entry(0x1600, 3, 0x60410010); /* 06040041h: that may be sent only */
+}
+
+/* 6041h and 6310h in one PDO, of the device that was led to ACTIVE. */
+static void example_send(void)
+{
+    send(0);
+    send(2); /* a fresh map writes nothing */
+    set_entry(0x1a00, 1, 0x60410010);
+    set_entry(0x1a00, 2, 0x63100110);
+    set_entry(0x1a00, 0, 2);
+    send(4); /* 0f 00 00 00: not there yet */
+    tick(1);
+    send(6); /* 0f 01 e8 03 and two bytes as they were */
+    send(3); /* 3 */
+    set_entry(0x1a00, 0, 1);
+    send(3); /* 0f 01 and one byte as it was */
+}
+
 /* Ends fresh, so that a made file may follow as if from the start. */
 int mode_examples(void)
 {
@@ -212,6 +266,8 @@ int mode_examples(void)
     example_dead_band();
     example_states();
     example_requests();
+    example_receive();
+    example_send();
     fresh();
     return EXIT_GOOD;
 }

@@ -170,15 +170,20 @@ uint8_t value_sub(const struct object *object)
 }
 
 /* A write of the right size; the data bytes beyond it hold anything at times. */
-void emit_write(struct maker *m, const struct object *object, int64_t value)
+void emit_entry_write(struct maker *m, const struct object *object, uint8_t sub, int64_t value)
 {
-    size_t size = object_size(object);
+    size_t size = object_entry_size(object, sub);
     uint32_t data = (uint32_t)value;
     if (size < 4 && one_in(m, 3)) {
         uint32_t kept = (UINT32_C(1) << (8 * size)) - 1;
         data = (data & kept) | ((uint32_t)draw(m) & ~kept);
     }
-    emit_sdo(m, write_command(size), object->index, value_sub(object), data);
+    emit_sdo(m, write_command(size), object->index, sub, data);
+}
+
+void emit_write(struct maker *m, const struct object *object, int64_t value)
+{
+    emit_entry_write(m, object, value_sub(object), value);
 }
 
 void emit_setting(struct maker *m, enum setting place, int64_t value)

@@ -28,6 +28,16 @@ enum sweep {
     SWEEP_DAMAGES,
     SWEEP_APPENDS,
     SWEEP_FINDS,
+    SWEEP_PROCESS_DATA,
+    SWEEP_PROCESS_DATA_RARE,
+    SWEEP_MAP_LOCKED,
+    SWEEP_MAP_COUNTS,
+    SWEEP_MAP_WRONG_ENTRIES,
+    SWEEP_MAP_SIZES,
+    SWEEP_MAP_BEYOND,
+    SWEEP_RECEIVES,
+    SWEEP_RECEIVED_WORDS,
+    SWEEP_SENDS,
     SWEEPS
 };
 
@@ -63,6 +73,7 @@ void set_request(struct record *record, uint8_t command, uint16_t index, uint8_t
 void emit_sdo(struct maker *m, uint8_t command, uint16_t index, uint8_t sub, uint32_t data);
 uint8_t write_command(size_t size);
 uint8_t value_sub(const struct object *object);
+void emit_entry_write(struct maker *m, const struct object *object, uint8_t sub, int64_t value);
 void emit_write(struct maker *m, const struct object *object, int64_t value);
 void emit_setting(struct maker *m, enum setting place, int64_t value);
 void emit_control(struct maker *m, uint16_t bits);
@@ -76,8 +87,21 @@ void steer_to(struct maker *m, enum device_state state);
 uint32_t ticks_left(const struct device *device);
 uint32_t ticks_left_to_zero(struct device copy);
 
-/* Scenes of other files than events.c: of the image, and of what is refused. */
+/* Maps. */
+enum { MAPPABLE = 3 };
+extern const uint32_t mappable[MAPS][MAPPABLE]; /* what may be received, what may be sent */
+enum { MAP_COUNTS = MAP_ENTRIES + 1, MAP_ROUNDS = MAPPABLE + 1 };
+uint8_t planned_count(uint32_t turn);
+uint32_t planned_round(uint32_t turn);
+void play_planned_map(struct maker *m, enum map_kind kind, uint32_t turn);
+void build_map(struct maker *m, enum map_kind kind, const uint32_t *entries, uint8_t count);
+
+/* Scenes and parts of them that more than one file plays. */
 void scene_write_edge(struct maker *m);
+void scene_target(struct maker *m);
+void plain_scaling(struct maker *m);
+
+/* Scenes of other files than events.c: of the image, of what is refused, of process data. */
 void scene_store(struct maker *m);
 void scene_load(struct maker *m);
 void scene_append(struct maker *m);
@@ -90,5 +114,10 @@ void scene_wide(struct maker *m);
 void scene_no_fault(struct maker *m);
 void scene_unsound(struct maker *m);
 void scene_broken(struct maker *m);
+void scene_process_data(struct maker *m);
+void scene_receive(struct maker *m);
+void scene_received_words(struct maker *m);
+void scene_send(struct maker *m);
+void scene_any_pdo(struct maker *m);
 
 #endif

@@ -1,4 +1,5 @@
-/* The device of document 01, in the order of that paper. */
+/* The device of document 01, in the order of that paper; process data, wish 2 of document 02,
+ * stands behind SDO. */
 #include "model.h"
 
 #include <string.h>
@@ -25,6 +26,8 @@ static int64_t magnitude(int64_t value)
 /* The rows of the settings stand last and in the order of their tags. */
 const struct object objects[OBJECTS] = {
     /* index, form, type, access, locked, low, high, fresh, value */
+    {0x1600, MAP_RECORD, U32, READ_WRITE, false, U32_ALL, 0, RECEIVE_MAPPING},
+    {0x1a00, MAP_RECORD, U32, READ_WRITE, false, U32_ALL, 0, TRANSMIT_MAPPING},
     {0x6040, VARIABLE, U16, READ_WRITE, false, U16_ALL, 0, CONTROL_WORD},
     {0x6041, VARIABLE, U16, READ_ONLY, false, U16_ALL, 0, STATUS_WORD},
     {0x604e, VARIABLE, U16, READ_ONLY, false, U16_ALL, 0, ERROR_CODE},
@@ -86,15 +89,31 @@ uint8_t object_top_sub(const struct object *object)
         return 0;
     case RECORD:
         return 1;
+    case MAP_RECORD:
+        return MAP_ENTRIES;
     default:
         return 3;
     }
 }
 
-/* A record's value is at sub 1, a variable's at sub 0. */
+/* A record's value is at sub 1, a variable's at sub 0; a map holds one at every sub. */
 static bool is_value_sub(const struct object *object, uint8_t sub)
 {
+    if (object->form == MAP_RECORD)
+        return true;
     return sub == (object->form == VARIABLE ? 0 : 1);
+}
+
+static bool is_map_count(const struct object *object, uint8_t sub)
+{
+    return object->form == MAP_RECORD && sub == 0;
+}
+
+size_t object_entry_size(const struct object *object, uint8_t sub)
+{
+    if (!is_value_sub(object, sub) || is_map_count(object, sub))
+        return 1;
+    return object_size(object);
 }
 
 static bool in_range(const struct object *object, int64_t value)
@@ -371,8 +390,14 @@ static int64_t command(const struct device *device)
 
 /* ---- SDO ---- */
 
-static int64_t shown_value(const struct device *device, const struct object *object)
+static enum map_kind map_kind_of(const struct object *object)
 {
+    return object->value == RECEIVE_MAPPING ? RECEIVE_MAP : TRANSMIT_MAP;
+}
+
+static int64_t shown_value(const struct device *device, const struct object *object, uint8_t sub)
+{
+    const struct map *map = &device->map[map_kind_of(object)];
     switch (object->value) {
     case CONTROL_WORD:
         return device->control_word;
@@ -384,19 +409,31 @@ static int64_t shown_value(const struct device *device, const struct object *obj
         return device->set_point;
     case COMMAND:
         return command(device);
+    case RECEIVE_MAPPING:
+    case TRANSMIT_MAPPING:
+        return sub == 0 ? map->count : map->entry[sub - 1];
     default:
         return device->setting[object->value];
     }
 }
 
-static void take_value(struct device *device, const struct object *object, int64_t value)
+static void take_value(struct device *device, const struct object *object, uint8_t sub,
+                       int64_t value)
 {
+    struct map *map = &device->map[map_kind_of(object)];
     switch (object->value) {
     case CONTROL_WORD:
         accept_control_word(device, (uint16_t)value);
         break;
     case SET_POINT:
         device->set_point = (int32_t)value;
+        break;
+    case RECEIVE_MAPPING:
+    case TRANSMIT_MAPPING:
+        if (sub == 0)
+            map->count = (uint8_t)value;
+        else
+            map->entry[sub - 1] = (uint32_t)value;
         break;
     default:
         device->setting[object->value] = value;
@@ -419,12 +456,10 @@ static uint8_t shown_byte(const struct object *object, uint8_t sub)
 static void read_entry(const struct device *device, const struct object *object, uint8_t sub,
                        uint8_t *reply)
 {
-    size_t size = 1;
+    size_t size = object_entry_size(object, sub);
     uint32_t value = shown_byte(object, sub);
-    if (is_value_sub(object, sub)) {
-        size = object_size(object);
-        value = (uint32_t)shown_value(device, object);
-    }
+    if (is_value_sub(object, sub))
+        value = (uint32_t)shown_value(device, object, sub);
     reply[0] = size == 1 ? READ_1 : size == 2 ? READ_2 : READ_4;
     number_to_bytes(value, &reply[4], size);
 }
@@ -447,6 +482,66 @@ static bool crosses_limits(const struct device *device, const struct object *obj
     return false;
 }
 
+/* An entry is index * 65536 + sub-index * 256 + length in bits. */
+static uint16_t mapped_index(uint32_t entry)
+{
+    return (uint16_t)(entry >> 16);
+}
+
+static uint8_t mapped_sub(uint32_t entry)
+{
+    return (uint8_t)(entry >> 8);
+}
+
+static uint8_t mapped_bits(uint32_t entry)
+{
+    return (uint8_t)entry;
+}
+
+/* Whether the entry names an object of that direction, with its sub-index and length. */
+static bool is_mappable(enum map_kind kind, uint32_t entry)
+{
+    enum { MAPPABLE = 3 };
+    static const uint16_t indexes[MAPS][MAPPABLE] = {
+        [RECEIVE_MAP] = {0x6040, 0x6300, 0x6314},
+        [TRANSMIT_MAP] = {0x6041, 0x604e, 0x6310},
+    };
+    for (size_t i = 0; i < MAPPABLE; i++) {
+        if (mapped_index(entry) != indexes[kind][i])
+            continue;
+        const struct object *object = object_find(indexes[kind][i]);
+        return is_value_sub(object, mapped_sub(entry)) &&
+               mapped_bits(entry) == 8 * object_size(object);
+    }
+    return false;
+}
+
+/* Whether so many entries may be counted: none of them is zero or anything else not mappable. */
+static bool is_countable(enum map_kind kind, const struct map *map, size_t count)
+{
+    for (size_t i = 0; i < count; i++)
+        if (!is_mappable(kind, map->entry[i]))
+            return false;
+    return true;
+}
+
+/* The aborts after place 8, by wish 2 of document 02 and in its order. */
+static enum abort_code map_abort(const struct device *device, const struct object *object,
+                                 uint8_t sub, int64_t value)
+{
+    enum map_kind kind = map_kind_of(object);
+    const struct map *map = &device->map[kind];
+    if (sub != 0 && map->count != 0)
+        return ABORT_LOCKED;
+    if (sub == 0 && value > MAP_ENTRIES)
+        return ABORT_MAP_TOO_LONG;
+    if (sub == 0 && !is_countable(kind, map, (size_t)value))
+        return ABORT_NOT_MAPPABLE;
+    if (sub != 0 && value != 0 && !is_mappable(kind, (uint32_t)value))
+        return ABORT_NOT_MAPPABLE;
+    return NO_ABORT;
+}
+
 /* The size that a write command announces; 0 for every other command. */
 static size_t write_size(uint8_t command_byte)
 {
@@ -464,18 +559,24 @@ static size_t write_size(uint8_t command_byte)
     }
 }
 
-/* Aborts 4 to 8 in their order, then the write itself. */
+/* The bytes of a write, read in the type of the entry: a map's count is one byte. */
+static int64_t entry_value(const struct object *object, uint8_t sub, const uint8_t *bytes)
+{
+    return is_map_count(object, sub) ? bytes[0] : object_value(object, bytes);
+}
+
+/* Aborts 4 to 8 and those of maps in their order, then the write itself. */
 static enum abort_code write_entry(struct device *device, const struct object *object, uint8_t sub,
                                    size_t size, const uint8_t *data)
 {
     if (object->access == READ_ONLY || !is_value_sub(object, sub))
         return ABORT_READ_ONLY;
     /* Place 5, by wish 1 of document 02: which way the length is wrong. */
-    if (size > object_size(object))
+    if (size > object_entry_size(object, sub))
         return ABORT_TOO_LONG;
-    if (size < object_size(object))
+    if (size < object_entry_size(object, sub))
         return ABORT_TOO_SHORT;
-    int64_t value = object_value(object, data);
+    int64_t value = entry_value(object, sub, data);
     enum abort_code code = range_abort(object, value);
     if (code != NO_ABORT)
         return code;
@@ -483,8 +584,11 @@ static enum abort_code write_entry(struct device *device, const struct object *o
         return ABORT_LIMITS;
     if (object->locked && device->state == ACTIVE)
         return ABORT_LOCKED;
-    take_value(device, object, value);
-    return NO_ABORT;
+    if (object->form == MAP_RECORD)
+        code = map_abort(device, object, sub, value);
+    if (code == NO_ABORT)
+        take_value(device, object, sub, value);
+    return code;
 }
 
 /* Aborts 1 to 3, then the read or the write; fills all of the reply but an abort. */
@@ -517,7 +621,7 @@ enum number device_sdo(struct device *device, const uint8_t *request, size_t req
     if (request_size != SDO_SIZE)
         return REQUEST_NOT_EIGHT;
     if (room < SDO_SIZE)
-        return REPLY_ROOM_UNDER_EIGHT;
+        return ROOM_SHORT;
     if ((request[0] & TOP_THREE_BITS) == CLIENT_ABORT)
         return NO_REPLY_DUE;
 
@@ -529,6 +633,57 @@ enum number device_sdo(struct device *device, const uint8_t *request, size_t req
     }
     memcpy(reply, built, SDO_SIZE);
     return DONE;
+}
+
+/* ---- Process data ---- */
+
+static size_t mapped_size(uint32_t entry)
+{
+    return mapped_bits(entry) / 8u;
+}
+
+/* The length of the map's PDO in bytes. */
+static size_t map_size(const struct map *map)
+{
+    size_t size = 0;
+    for (size_t i = 0; i < map->count; i++)
+        size += mapped_size(map->entry[i]);
+    return size;
+}
+
+/* Each entry acts as the same SDO write would; none of those can be aborted, since
+ * what may be received has the whole range of its type and no lock. */
+enum number device_receive(struct device *device, const uint8_t *pdo, size_t size)
+{
+    if (!device_sound(device))
+        return STATE_NOT_SOUND;
+    const struct map *map = &device->map[RECEIVE_MAP];
+    if (size < map_size(map))
+        return PDO_SHORT;
+    for (size_t i = 0; i < map->count; i++) {
+        uint32_t entry = map->entry[i];
+        const struct object *object = object_find(mapped_index(entry));
+        write_entry(device, object, mapped_sub(entry), mapped_size(entry), pdo);
+        pdo += mapped_size(entry);
+    }
+    return DONE;
+}
+
+struct sent device_send(const struct device *device, uint8_t *pdo, size_t room)
+{
+    if (!device_sound(device))
+        return (struct sent){STATE_NOT_SOUND, 0};
+    const struct map *map = &device->map[TRANSMIT_MAP];
+    if (room < map_size(map))
+        return (struct sent){ROOM_SHORT, 0};
+    for (size_t i = 0; i < map->count; i++) {
+        uint32_t entry = map->entry[i];
+        const struct object *object = object_find(mapped_index(entry));
+        int64_t value = shown_value(device, object, mapped_sub(entry));
+        number_to_bytes((uint32_t)value, pdo, mapped_size(entry));
+        pdo += mapped_size(entry);
+    }
+    return (struct sent){DONE, map_size(map)};
 }
 
 /* ---- Stored image ---- */
@@ -614,9 +769,23 @@ struct part image_find(uint8_t tag, const uint8_t *image, size_t size)
 
 /* ---- Numbers handed back ---- */
 
+/* What the writes can make: an entry that is not counted may be zero, none is ever wrong. */
+static bool map_sound(enum map_kind kind, const struct map *map)
+{
+    if (map->count > MAP_ENTRIES || !is_countable(kind, map, map->count))
+        return false;
+    for (size_t i = map->count; i < MAP_ENTRIES; i++)
+        if (map->entry[i] != 0 && !is_mappable(kind, map->entry[i]))
+            return false;
+    return true;
+}
+
 bool device_sound(const struct device *device)
 {
     if (device->state >= STATES || !settings_sound(device->setting))
+        return false;
+    if (!map_sound(RECEIVE_MAP, &device->map[RECEIVE_MAP]) ||
+        !map_sound(TRANSMIT_MAP, &device->map[TRANSMIT_MAP]))
         return false;
     if (device->set_point < INT16_MIN || device->set_point > INT16_MAX)
         return false;
@@ -627,12 +796,19 @@ bool device_sound(const struct device *device)
     return (device->error_code != 0) == (device->state == FAULT);
 }
 
+static bool maps_equal(const struct map *a, const struct map *b)
+{
+    return a->count == b->count && memcmp(a->entry, b->entry, sizeof a->entry) == 0;
+}
+
 bool device_equal(const struct device *a, const struct device *b)
 {
     return a->state == b->state && a->control_word == b->control_word &&
            a->error_code == b->error_code && a->set_point == b->set_point &&
            a->position == b->position &&
-           memcmp(a->setting, b->setting, sizeof a->setting) == 0;
+           memcmp(a->setting, b->setting, sizeof a->setting) == 0 &&
+           maps_equal(&a->map[RECEIVE_MAP], &b->map[RECEIVE_MAP]) &&
+           maps_equal(&a->map[TRANSMIT_MAP], &b->map[TRANSMIT_MAP]);
 }
 
 static int64_t asked_value(const struct device *device, enum query query)

@@ -1,4 +1,5 @@
-/* The device of document 01: what the other files may know of it. */
+/* The device of document 01, with wishes 1 and 2 of document 02: what the other files may know
+ * of it. */
 #ifndef SECOND_MODEL_H
 #define SECOND_MODEL_H
 
@@ -37,6 +38,16 @@ enum setting {
     SETTINGS
 };
 
+/* Process data: what is received and what is sent. */
+enum map_kind { RECEIVE_MAP, TRANSMIT_MAP, MAPS };
+enum { MAP_ENTRIES = 4 };
+
+/* An entry is index, sub-index and length in bits, from the high end down. */
+struct map {
+    uint8_t count; /* so many entries act, from the first on */
+    uint32_t entry[MAP_ENTRIES];
+};
+
 /* Settings are 64 bits wide, so that one type holds I8, I16 and U32 alike and
  * a value outside its range can be written down and found unsound. The set
  * point is wider than its I16 for the same reason. */
@@ -47,6 +58,7 @@ struct device {
     int32_t set_point;
     int32_t position;
     int64_t setting[SETTINGS];
+    struct map map[MAPS];
 };
 
 /* Numbers handed back. */
@@ -54,7 +66,7 @@ enum number {
     DONE,
     STATE_NOT_SOUND,
     REQUEST_NOT_EIGHT,
-    REPLY_ROOM_UNDER_EIGHT,
+    ROOM_SHORT, /* under eight for a reply, or under its map's length for a PDO */
     NO_REPLY_DUE,
     FAULT_CODE_ZERO,
     IMAGE_ROOM_UNDER_97,
@@ -62,16 +74,25 @@ enum number {
     IMAGE_VALUE_OUT_OF_RANGE,
     LOAD_OUTSIDE_DISABLED,
     TAG_NOT_FOUND,
+    PDO_SHORT = 14, /* 11 to 13 are not given */
     NUMBERS
 };
 
 /* Objects. */
-enum object_form { VARIABLE, RECORD, TIME_RECORD };
+enum object_form { VARIABLE, RECORD, TIME_RECORD, MAP_RECORD };
 enum object_type { I8, I16, U16, U32 };
 enum object_access { READ_ONLY, READ_WRITE };
 
 /* What an object shows: one of the settings, or one of these. */
-enum { CONTROL_WORD = SETTINGS, STATUS_WORD, ERROR_CODE, SET_POINT, COMMAND };
+enum {
+    CONTROL_WORD = SETTINGS,
+    STATUS_WORD,
+    ERROR_CODE,
+    SET_POINT,
+    COMMAND,
+    RECEIVE_MAPPING,
+    TRANSMIT_MAPPING
+};
 
 struct object {
     uint16_t index;
@@ -85,12 +106,13 @@ struct object {
     uint8_t value; /* which value it shows */
 };
 
-enum { OBJECTS = 22 };
+enum { OBJECTS = 24 };
 extern const struct object objects[OBJECTS];
 
 const struct object *object_find(uint16_t index);
 const struct object *object_of_setting(size_t place);
-size_t object_size(const struct object *object);   /* of its value, in bytes */
+size_t object_size(const struct object *object); /* of its value, in bytes */
+size_t object_entry_size(const struct object *object, uint8_t sub);
 uint8_t object_top_sub(const struct object *object);
 int64_t object_value(const struct object *object, const uint8_t *bytes); /* by its type */
 
@@ -120,7 +142,15 @@ enum abort_code {
     ABORT_TOO_HIGH = 0x06090031,
     ABORT_TOO_LOW = 0x06090032,
     ABORT_LIMITS = 0x06090036,
-    ABORT_LOCKED = 0x08000022
+    ABORT_LOCKED = 0x08000022,
+    ABORT_MAP_TOO_LONG = 0x06040042,
+    ABORT_NOT_MAPPABLE = 0x06040041
+};
+
+/* What a sending gave: how many bytes were written, 0 beside a refusal. */
+struct sent {
+    enum number number;
+    size_t size;
 };
 
 /* Stored image. */
@@ -160,6 +190,8 @@ enum number device_sdo(struct device *device, const uint8_t *request, size_t req
                        uint8_t *reply, size_t room);
 enum number device_store(const struct device *device, uint8_t *image, size_t room);
 enum number device_load(struct device *device, const uint8_t *image, size_t size);
+enum number device_receive(struct device *device, const uint8_t *pdo, size_t size);
+struct sent device_send(const struct device *device, uint8_t *pdo, size_t room);
 
 struct part image_find(uint8_t tag, const uint8_t *image, size_t size);
 struct answer device_query(const struct device *device, enum query query);

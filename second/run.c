@@ -63,13 +63,36 @@ static void run_sdo(struct run *run, const struct record *record, struct outcome
     run_request(run, record, record->bytes, at_most(record->small, SDO_SIZE), outcome);
 }
 
+/* The eight bytes and then the four of the number, low first. */
+void wide_bytes(const struct record *record, uint8_t bytes[WIDE_MOST])
+{
+    memcpy(bytes, record->bytes, SDO_SIZE);
+    for (size_t i = SDO_SIZE; i < WIDE_MOST; i++)
+        bytes[i] = (uint8_t)(record->number >> (8 * (i - SDO_SIZE)));
+}
+
 static void run_wide(struct run *run, const struct record *record, struct outcome *outcome)
 {
     uint8_t request[WIDE_MOST];
-    memcpy(request, record->bytes, SDO_SIZE);
-    for (size_t i = SDO_SIZE; i < WIDE_MOST; i++)
-        request[i] = (uint8_t)(record->number >> (8 * (i - SDO_SIZE)));
+    wide_bytes(record, request);
     run_request(run, record, request, at_most(record->small, WIDE_MOST), outcome);
+}
+
+static void run_receive(struct run *run, const struct record *record, struct outcome *outcome)
+{
+    uint8_t pdo[WIDE_MOST];
+    size_t size = at_most(record->small, WIDE_MOST);
+    wide_bytes(record, pdo);
+    outcome->number = (uint8_t)device_receive(&run->device, pdo, size);
+}
+
+static void run_send(const struct run *run, const struct record *record, struct outcome *outcome)
+{
+    size_t room = at_most(record->word, PDO_ROOM_MOST);
+    fill_room(outcome, room);
+    struct sent sent = device_send(&run->device, outcome->bytes, room);
+    outcome->number = (uint8_t)sent.number;
+    outcome->sent = sent.size;
 }
 
 static void run_store(struct run *run, const struct record *record, struct outcome *outcome)
@@ -172,6 +195,37 @@ static struct device unsound_device(struct device device, const struct record *r
     return device;
 }
 
+struct map_place broken_place(const struct record *record)
+{
+    enum map_kind kind = record->word % 2 == 0 ? RECEIVE_MAP : TRANSMIT_MAP;
+    return (struct map_place){kind, record->word / 2 % MAP_ENTRIES};
+}
+
+static struct device with_broken_map(struct device device, const struct record *record)
+{
+    static const uint32_t of_other_direction[MAPS] = {
+        [RECEIVE_MAP] = 0x60410010,
+        [TRANSMIT_MAP] = 0x60400010,
+    };
+    struct map_place place = broken_place(record);
+    struct map *map = &device.map[place.kind];
+    switch (record->small) {
+    case BROKEN_MAP_COUNT_5:
+        map->count = 5;
+        break;
+    case BROKEN_MAP_COUNT_255:
+        map->count = 255;
+        break;
+    case BROKEN_MAP_ENTRY_OTHER:
+        map->entry[place.entry] = of_other_direction[place.kind];
+        break;
+    default:
+        map->count = MAP_ENTRIES;
+        map->entry[place.entry] = 0;
+    }
+    return device;
+}
+
 static struct device broken_device(struct device device, const struct record *record)
 {
     enum { BELOW_STROKE = -FULL_POSITION - 1, NO_STATE = 255 };
@@ -201,6 +255,11 @@ static struct device broken_device(struct device device, const struct record *re
     case BROKEN_SET_POINT_BELOW:
         device.set_point = INT16_MIN - 1;
         break;
+    case BROKEN_MAP_COUNT_5:
+    case BROKEN_MAP_COUNT_255:
+    case BROKEN_MAP_ENTRY_OTHER:
+    case BROKEN_MAP_ENTRY_ZERO:
+        return with_broken_map(device, record);
     default:
         device.state = NO_STATE;
     }
@@ -226,6 +285,10 @@ static enum number call_with(struct device *device, const struct record *record,
         return device_store(device, room, IMAGE_SIZE);
     case CALL_LOAD:
         return device_load(device, image, IMAGE_SIZE);
+    case CALL_RECEIVE:
+        return device_receive(device, record->bytes, SDO_SIZE);
+    case CALL_SEND:
+        return device_send(device, room, SDO_SIZE).number;
     default:
         return device_query(device, QUERY_STATUS).number;
     }
@@ -275,6 +338,43 @@ static enum number run_plain(struct run *run, const struct record *record)
     }
 }
 
+static void run_image_event(struct run *run, const struct record *record,
+                            struct outcome *outcome)
+{
+    switch (record->kind) {
+    case EVENT_STORE:
+        run_store(run, record, outcome);
+        break;
+    case EVENT_FIND:
+        run_find(run, record, outcome);
+        break;
+    case EVENT_PATCH:
+        run_patch(run, record, outcome);
+        break;
+    default:
+        run_load(run, record, outcome);
+    }
+}
+
+/* The events that bytes go in or out with. */
+static void run_bytes_event(struct run *run, const struct record *record,
+                            struct outcome *outcome)
+{
+    switch (record->kind) {
+    case EVENT_SDO:
+        run_sdo(run, record, outcome);
+        break;
+    case EVENT_WIDE:
+        run_wide(run, record, outcome);
+        break;
+    case EVENT_RECEIVE:
+        run_receive(run, record, outcome);
+        break;
+    default:
+        run_send(run, record, outcome);
+    }
+}
+
 struct outcome run_event(struct run *run, const struct record *record)
 {
     struct outcome outcome = {.number = DONE};
@@ -283,17 +383,17 @@ struct outcome run_event(struct run *run, const struct record *record)
         run->device = device_fresh();
         break;
     case EVENT_SDO:
-        run_sdo(run, record, &outcome);
+    case EVENT_WIDE:
+    case EVENT_RECEIVE:
+    case EVENT_SEND:
+        run_bytes_event(run, record, &outcome);
         break;
     case EVENT_STORE:
-        run_store(run, record, &outcome);
-        break;
     case EVENT_LOAD:
     case EVENT_APPEND:
-        run_load(run, record, &outcome);
-        break;
     case EVENT_FIND:
-        run_find(run, record, &outcome);
+    case EVENT_PATCH:
+        run_image_event(run, record, &outcome);
         break;
     case EVENT_QUERY:
         run_query(run, &outcome);
@@ -303,12 +403,6 @@ struct outcome run_event(struct run *run, const struct record *record)
         break;
     case EVENT_TICKS:
         run_ticks(run, record, &outcome);
-        break;
-    case EVENT_PATCH:
-        run_patch(run, record, &outcome);
-        break;
-    case EVENT_WIDE:
-        run_wide(run, record, &outcome);
         break;
     case EVENT_BROKEN:
         run_broken(run, record, &outcome);

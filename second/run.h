@@ -25,6 +25,8 @@ enum event_kind {
     EVENT_WIDE,
     EVENT_APPEND,
     EVENT_BROKEN,
+    EVENT_RECEIVE,
+    EVENT_SEND,
     EVENT_KINDS
 };
 
@@ -52,7 +54,11 @@ enum broken_kind {
     BROKEN_POSITION_BY_STATE,
     BROKEN_SET_POINT_ABOVE,
     BROKEN_SET_POINT_BELOW,
-    BROKEN_STATE, /* every higher number too */
+    BROKEN_MAP_COUNT_5,
+    BROKEN_MAP_COUNT_255,
+    BROKEN_MAP_ENTRY_OTHER, /* of the other direction */
+    BROKEN_MAP_ENTRY_ZERO,  /* and counted */
+    BROKEN_STATE,           /* every higher number too */
     BROKEN_KINDS
 };
 
@@ -66,12 +72,15 @@ enum unsound_call {
     CALL_STORE,
     CALL_LOAD,
     CALL_QUERY,
+    CALL_RECEIVE,
+    CALL_SEND,
     CALLS
 };
 
 enum {
     SDO_ROOM_MOST = 12,
-    WIDE_MOST = 12,    /* bytes of a wide request */
+    WIDE_MOST = 12,    /* bytes of a wide request, or of a PDO received */
+    PDO_ROOM_MOST = 12,
     APPEND_MOST = 255, /* bytes more of an appended load */
     STORE_ROOM_MOST = 100,
     ROOM_FILL = 0xaa
@@ -83,6 +92,12 @@ struct record {
     uint16_t word;
     uint32_t number;
     uint8_t bytes[SDO_SIZE];
+};
+
+/* Which entry of which map a broken event is about. */
+struct map_place {
+    enum map_kind kind;
+    size_t entry; /* from 0 */
 };
 
 struct run {
@@ -101,6 +116,7 @@ struct outcome {
     uint8_t number;
     size_t place;      /* of a find or a patch */
     size_t byte_count; /* of the room, or of the found part */
+    size_t sent;       /* so many bytes of the room were written by a send */
     uint8_t bytes[STORE_ROOM_MOST];
     struct answer query[QUERIES];
     bool same; /* of a broken device: handed back as it was */
@@ -111,6 +127,8 @@ size_t at_most(size_t value, size_t most);
 
 struct run run_begin(void);
 struct load load_of(const uint8_t *image, const struct record *record);
+void wide_bytes(const struct record *record, uint8_t bytes[WIDE_MOST]);
+struct map_place broken_place(const struct record *record);
 struct outcome run_event(struct run *run, const struct record *record);
 
 /* Reads one record; gives the number of bytes met, RECORD_SIZE for a whole one. */

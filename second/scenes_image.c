@@ -83,7 +83,7 @@ static void patch_anything(struct maker *m)
 static uint8_t damage_tag(struct maker *m)
 {
     static const uint8_t tags[] = {0, 18, 19, 128, 255};
-    size_t place = below(m, SETTINGS);
+    size_t place = one_in(m, 3) ? SETTINGS - 1 : below(m, SETTINGS);
     uint8_t tag = PICK(m, tags);
     patch_byte(m, field_start(place), tag);
     return one_in(m, 4) ? tag_of(place) : tag;
@@ -139,12 +139,12 @@ static uint8_t damage_by_empty_end(struct maker *m)
     return tag_of(DEAD_BAND_THRESHOLD);
 }
 
-/* A length above 255, whose low byte fits half of the time. */
+/* A length above 255, whose low byte mostly fits. */
 static uint8_t damage_by_long_field(struct maker *m)
 {
     static const uint8_t high_bytes[] = {1, 2, 0x7f, 0x80, 0xff};
     size_t place = below(m, SETTINGS);
-    size_t low = one_in(m, 2) ? value_size(place) : below(m, 256);
+    size_t low = one_in(m, 4) ? below(m, 256) : value_size(place);
     size_t high = PICK(m, high_bytes);
     patch_length(m, field_start(place), high << 8 | low);
     return tag_of(one_in(m, 2) ? place : below(m, SETTINGS));
@@ -165,7 +165,7 @@ static uint8_t damage_by_reach(struct maker *m)
 
 static uint8_t damage_length(struct maker *m)
 {
-    size_t place = below(m, SETTINGS);
+    size_t place = one_in(m, 3) ? SETTINGS - 1 : below(m, SETTINGS);
     size_t size = value_size(place);
     bool more = one_in(m, 2);
     patch_length(m, field_start(place), more ? size + 1 : size - 1);
@@ -321,8 +321,8 @@ static uint16_t pick_image_place(struct maker *m)
 
 static uint16_t pick_cut(struct maker *m)
 {
-    static const uint16_t cuts[] = {96, 0, 97, 96, 0, 1, 95, 98, 65535};
-    if (one_in(m, 3))
+    static const uint16_t cuts[] = {96, 0, 96, 0, 97, 96, 0, 1, 95, 98, 65535};
+    if (one_in(m, 5))
         return (uint16_t)below(m, IMAGE_SIZE);
     uint32_t turn = next_turn(m, SWEEP_LOAD_CUTS);
     return cuts[turn % (sizeof cuts / sizeof cuts[0])];
@@ -390,7 +390,7 @@ void scene_load(struct maker *m)
 /* None, one, two and many bytes more, in turn. */
 void scene_append(struct maker *m)
 {
-    static const uint8_t counts[] = {0, 1, 2, 0, 255, 3, 254, 97};
+    static const uint8_t counts[] = {0, 1, 255, 2, 0, 1, 255, 2, 3, 254, 97};
     uint32_t turn = next_turn(m, SWEEP_APPENDS);
     uint8_t count = counts[turn % sizeof counts];
     if (!one_in(m, 4))

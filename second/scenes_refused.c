@@ -64,7 +64,7 @@ void scene_no_fault(struct maker *m)
  * a request or a fault code that a sound device would refuse as well. */
 static void set_call(struct maker *m, struct record *record, uint32_t call)
 {
-    record->number = (record->number & ~(uint32_t)(CALLS - 1)) | call;
+    record->number = record->number % (UINT32_MAX / CALLS) * CALLS + call;
     if (!one_in(m, 4)) /* else the bytes hold anything */
         set_any_request(m, record);
     if (one_in(m, 3))
@@ -110,8 +110,25 @@ static uint16_t word_of_setting(struct maker *m, uint32_t place)
     return (uint16_t)(place + SETTINGS * round);
 }
 
-/* Every way with one call, one setting and in one state, each in turn. What a
- * load is given is damaged from some way on. */
+/* A word of the map and its entry; the maps shift with each round of calls. */
+static uint16_t word_of_map(struct maker *m, uint32_t turn)
+{
+    enum { PLACES = MAPS * MAP_ENTRIES, ROUNDS = UINT16_MAX / PLACES };
+    uint32_t round = one_in(m, 3) ? 0 : below(m, ROUNDS);
+    return (uint16_t)((turn + turn / CALLS) % PLACES + PLACES * round);
+}
+
+static uint16_t word_of_way(struct maker *m, uint32_t turn, const struct record *record)
+{
+    if (record->small <= BROKEN_SETTING_LEAST)
+        return word_of_setting(m, turn % SETTINGS);
+    if (record->small >= BROKEN_MAP_COUNT_5 && record->small <= BROKEN_MAP_ENTRY_ZERO)
+        return word_of_map(m, turn);
+    return record->word;
+}
+
+/* Every way with one call, one setting or entry of a map, and in one state, each in
+ * turn. What a load is given is damaged from some way on. */
 void scene_broken(struct maker *m)
 {
     uint32_t turn = next_turn(m, SWEEP_BROKEN);
@@ -125,8 +142,7 @@ void scene_broken(struct maker *m)
         record.small = way;
         if (way == BROKEN_STATE && one_in(m, 2))
             record.small = (uint8_t)between(m, BROKEN_KINDS, UINT8_MAX);
-        if (way <= BROKEN_SETTING_LEAST)
-            record.word = word_of_setting(m, turn % SETTINGS);
+        record.word = word_of_way(m, turn, &record);
         emit(m, &record);
     }
     leave_fault(m);

@@ -8,7 +8,7 @@
 static const char *const event_name[EVENT_KINDS] = {
     "fresh", "sdo",  "control", "fault", "tick",    "jump",
     "store", "load", "find",    "query", "unsound", "ticks",
-    "patch", "wide", "append",  "broken",
+    "patch", "wide", "append",  "broken", "receive", "send",
 };
 
 static void print_bytes(const struct outcome *outcome)
@@ -41,6 +41,10 @@ static void print_result(const struct record *record, const struct outcome *outc
     case EVENT_BROKEN:
         printf(" %d %s %s", (int)outcome->number, outcome->same ? "same" : "other",
                outcome->kept ? "kept" : "written");
+        break;
+    case EVENT_SEND:
+        printf(" %d %d", (int)outcome->number, (int)outcome->sent);
+        print_bytes(outcome);
         break;
     default: /* only sdo, wide and store have bytes */
         printf(" %d", (int)outcome->number);

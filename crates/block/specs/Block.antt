@@ -37,5 +37,5 @@ freshBlock =
     record {
       setpoint = rowAt SET-POINT .fresh;
       position = pos 0;
-      settings = map (λ columns. columns .7) (take SETTINGS objects);
+      settings = map (λ columns. columns .8) (take SETTINGS objects);
     }

@@ -1,4 +1,4 @@
--- Control words, faults, ticks and jumps change no setting and no set point. So whenever a device is back in a state, its target is what it was: no change of state can add a correction again.
+-- Control words, faults, ticks and jumps change no setting, no set point and no map. So whenever a device is back in a state, its target is what it was: no change of state can add a correction again.
 use mathlib.Core.Path.{_≡_, refl, _∙_}
 use Prim.Native.Nat.{ℕ}
 use lib.Dec.{eqb}
@@ -14,10 +14,10 @@ use Rattle.device.specs.Kept.{SameSettings}
 use Rattle.device.specs.declared.Device.{Device}
 
 pub same : {d : Device} → SameSettings d d
-same = record { settings = refl; setpoint = refl }
+same = record { settings = refl; setpoint = refl; maps = refl }
 
 pub then-same : {d e f : Device} → SameSettings d e → SameSettings e f → SameSettings d f
-then-same p q = record { settings = p .settings ∙ q .settings; setpoint = p .setpoint ∙ q .setpoint }
+then-same p q = record { settings = p .settings ∙ q .settings; setpoint = p .setpoint ∙ q .setpoint; maps = p .maps ∙ q .maps }
 
 -- ---- each event
 
@@ -27,23 +27,24 @@ entering-keeps state d =
     record {
       settings = by-test (λ (b : Block). b .settings ≡ d .block .settings) (driven state) (λ e. refl) (λ e. refl);
       setpoint = by-test (λ (b : Block). b .setpoint ≡ d .block .setpoint) (driven state) (λ e. refl) (λ e. refl);
+      maps = refl;
     }
 
 pub controlled-keeps : (word : ℕ) (d : Device) → SameSettings (controlled word d) d
 unfolding controlled
-controlled-keeps word d = let k = entering-keeps (nextState (d .state) (d .control) word) d in record { settings = k .settings; setpoint = k .setpoint }
+controlled-keeps word d = let k = entering-keeps (nextState (d .state) (d .control) word) d in record { settings = k .settings; setpoint = k .setpoint; maps = k .maps }
 
 pub faulted-keeps : (code : ℕ) (d : Device) → SameSettings (faulted code d) d
 unfolding faulted reported
-faulted-keeps code d = then-same (entering-keeps FAULT (reported code d)) (by-test (λ e. SameSettings e d) (eqb (d .state) FAULT) (λ e. same) (λ e. record { settings = refl; setpoint = refl }))
+faulted-keeps code d = then-same (entering-keeps FAULT (reported code d)) (by-test (λ e. SameSettings e d) (eqb (d .state) FAULT) (λ e. same) (λ e. record { settings = refl; setpoint = refl; maps = refl }))
 
 pub tick-keeps : (d : Device) → SameSettings (tickDevice d) d
 unfolding tickDevice tickBlock
-tick-keeps d = by-test (λ e. SameSettings e d) (driven (d .state)) (λ e. record { settings = refl; setpoint = refl }) (λ e. same)
+tick-keeps d = by-test (λ e. SameSettings e d) (driven (d .state)) (λ e. record { settings = refl; setpoint = refl; maps = refl }) (λ e. same)
 
 pub jump-keeps : (n : ℕ) (d : Device) → SameSettings (jumpDevice n d) d
 unfolding jumpDevice jumpBlock
-jump-keeps n d = by-test (λ e. SameSettings e d) (driven (d .state)) (λ e. record { settings = refl; setpoint = refl }) (λ e. same)
+jump-keeps n d = by-test (λ e. SameSettings e d) (driven (d .state)) (λ e. record { settings = refl; setpoint = refl; maps = refl }) (λ e. same)
 
 -- ---- the target
 

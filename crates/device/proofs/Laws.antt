@@ -17,9 +17,13 @@ use Rattle.block.specs.Sound as Blocks
 use Rattle.block.proofs.Sound as BlockSound
 use Rattle.block.proofs.Travel as BlockTravel
 use Rattle.block.specs.declared.Block.{Block}
+use Rattle.mapping.specs.Maps.{RECEIVABLE, SENDABLE}
+use Rattle.mapping.specs.Sound.{soundMaps}
+use Rattle.mapping.specs.declared.Maps.{Maps}
+use Rattle.mapping.proofs.Sound as Mapped
 use Rattle.device.specs.Queries.{STATUS-ACTIVE, TARGET-MET, targetMet, statusOf}
 use Rattle.device.specs.States.{DISABLED, HOLD, ACTIVE, FAULT, bit, fromDisabled, fromHold, fromActive, fromFault, nextState, driven}
-use Rattle.device.specs.Device.{freshDevice, withBlock, withControl, isActive}
+use Rattle.device.specs.Device.{freshDevice, withBlock, withControl, withMaps, isActive}
 use Rattle.device.specs.Events.{blockIn, errorIn, entering, controlled, reported, faulted, tickDevice, jumpDevice}
 use Rattle.device.specs.Sound.{isState, errorFits, rests, soundDevice, Sound}
 use Rattle.device.specs.declared.Device.{Device}
@@ -28,27 +32,44 @@ pub record Parts (d : Device) : Type 0 where
   pub known : isState (d .state) ≡ true
   pub fits : errorFits (d .state) (d .error) ≡ true
   pub at-rest : rests d ≡ true
+  pub mapped : soundMaps (d .maps) ≡ true
   pub block : Blocks.Sound (d .block)
 
 pub device-parts : {d : Device} → Sound d → Parts d
 unfolding soundDevice
 device-parts {d} s =
     let first = isState (d .state) && errorFits (d .state) (d .error) in
-    let abc = and-split (first && rests d) (soundBlock (d .block)) (s .sound) in
+    let abcd = and-split (first && rests d && soundMaps (d .maps)) (soundBlock (d .block)) (s .sound) in
+    let abc = and-split (first && rests d) (soundMaps (d .maps)) (abcd .0) in
     let ab = and-split first (rests d) (abc .0) in
     let a = and-split (isState (d .state)) (errorFits (d .state) (d .error)) (ab .0) in
-    record { known = a .0; fits = a .1; at-rest = ab .1; block = record { sound = abc .1 } }
+    record { known = a .0; fits = a .1; at-rest = ab .1; mapped = abc .1; block = record { sound = abcd .1 } }
 
 pub device-from-parts : {d : Device} → Parts d → Sound d
 unfolding soundDevice
-device-from-parts p = record { sound = and-both (and-both (and-both (p .known) (p .fits)) (p .at-rest)) (p .block .sound) }
+device-from-parts p = record { sound = and-both (and-both (and-both (and-both (p .known) (p .fits)) (p .at-rest)) (p .mapped)) (p .block .sound) }
 
 pub block-of-sound : {d : Device} → Sound d → Blocks.Sound (d .block)
 block-of-sound s = device-parts s .block
 
+-- and its maps by their parts
+module _ {d : Device} (s : Sound d) where
+  pub receive-parts : Mapped.Parts RECEIVABLE (d .maps .receive)
+  receive-parts = Mapped.map-parts (Mapped.maps-split (d .maps) (device-parts s .mapped) .0)
+
+  pub transmit-parts : Mapped.Parts SENDABLE (d .maps .transmit)
+  transmit-parts = Mapped.map-parts (Mapped.maps-split (d .maps) (device-parts s .mapped) .1)
+
 -- a device with another sound block is sound, where that rests as it must
 pub with-block-sound : {d : Device} {b : Block} → Sound d → Blocks.Sound b → rests (withBlock b d) ≡ true → Sound (withBlock b d)
-with-block-sound s h e = let p = device-parts s in device-from-parts (record { known = p .known; fits = p .fits; at-rest = e; block = h })
+with-block-sound s h e = let p = device-parts s in device-from-parts (record { known = p .known; fits = p .fits; at-rest = e; mapped = p .mapped; block = h })
+
+-- and one with other sound maps
+pub with-maps-sound : {d : Device} {maps : Maps} → Sound d → soundMaps maps ≡ true → Sound (withMaps maps d)
+unfolding rests
+with-maps-sound {d} {maps} s h =
+    let p = device-parts s in
+    device-from-parts {d = withMaps maps d} (record { known = p .known; fits = p .fits; at-rest = p .at-rest; mapped = h; block = p .block })
 
 -- it does so where the device is driven, and where the block stands at the same position
 pub driven-rests : (d : Device) (b : Block) → driven (d .state) ≡ true → rests (withBlock b d) ≡ true
@@ -66,14 +87,15 @@ unfolding blockIn
 block-in-sound state {b} s = by-test Blocks.Sound (driven state) (λ e. s) (λ e. BlockTravel.moved-sound s (pos 0) (record { inside = omega arith }))
 
 -- a device that enters one of the four states is sound, where FAULT has an error code
-pub entering-sound : (d : Device) (state : ℕ) → Blocks.Sound (d .block) → isState state ≡ true → (eqb state FAULT ≡ true → d .error ≢ 0) → Sound (entering state d)
+pub entering-sound : (d : Device) (state : ℕ) → soundMaps (d .maps) ≡ true → Blocks.Sound (d .block) → isState state ≡ true → (eqb state FAULT ≡ true → d .error ≢ 0) → Sound (entering state d)
 unfolding entering
-entering-sound d state s known code =
+entering-sound d state maps s known code =
     device-from-parts
     (record {
       known = known;
       fits = unfold errorFits errorIn in by-cases (eqb state FAULT) (λ e. rw (e, ne-eqb (d .error) 0 (code e))) (λ e. rw e);
       at-rest = unfold rests blockIn in by-cases (driven state) (λ e. rw e) (λ e. rw e);
+      mapped = maps;
       block = block-in-sound state s;
     })
 
@@ -142,15 +164,18 @@ unfolding controlled
 controlled-sound {d} s word =
     let p = device-parts s in
     with-control-sound
-    (entering-sound d _ (p .block) (next-known (d .state) (d .control) word)
+    (entering-sound d _ (p .mapped) (p .block) (next-known (d .state) (d .control) word)
     (λ e. error-in-fault s (stays-in-fault (d .state) (d .control) word (p .known) e))) word
 
 -- ---- faults, ticks and jumps
 
 pub faulted-sound : {d : Device} → Sound d → (code : ℕ) → code ≢ 0 → Sound (faulted code d)
 unfolding faulted isState
-faulted-sound {d} s code h = entering-sound (reported code d) FAULT block refl (λ e. error)
+faulted-sound {d} s code h = entering-sound (reported code d) FAULT maps block refl (λ e. error)
   where
+    maps : soundMaps (reported code d .maps) ≡ true
+    maps = unfold reported in by-test (λ (e : Device). soundMaps (e .maps) ≡ true) (eqb (d .state) FAULT) (λ k. device-parts s .mapped) (λ k. device-parts s .mapped)
+
     block : Blocks.Sound (reported code d .block)
     block = unfold reported in by-test (λ (e : Device). Blocks.Sound (e .block)) (eqb (d .state) FAULT) (λ k. block-of-sound s) (λ k. block-of-sound s)
 
@@ -167,7 +192,7 @@ jump-sound {d} s n = by-test Sound (driven (d .state)) (λ e. with-block-sound s
 
 pub fresh-sound : Sound freshDevice
 unfolding freshDevice isState errorFits rests driven
-fresh-sound = device-from-parts (record { known = refl; fits = refl; at-rest = unfold freshBlock in refl; block = BlockSound.fresh-sound })
+fresh-sound = device-from-parts (record { known = refl; fits = refl; at-rest = unfold freshBlock in refl; mapped = Mapped.fresh-sound; block = BlockSound.fresh-sound })
 
 -- ---- the status word
 

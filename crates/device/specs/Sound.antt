@@ -1,10 +1,11 @@
--- Document 01, "Numbers handed back": what makes a state sound.
+-- Document 01, "Numbers handed back", with the maps of wish 2 of document 02: what makes a state sound.
 use mathlib.Core.Bool.{Bool, true, not, _&&_, _||_}
 use mathlib.Core.Path.{_≡_}
 use Prim.Native.Nat.{ℕ}
 use lib.IntN.{pos}
 use Rattle.integers.specs.Words.{if_then_else_, _is_, _=?_}
 use Rattle.block.specs.Sound.{soundBlock}
+use Rattle.mapping.specs.Sound.{soundMaps}
 use Rattle.device.specs.States.{DISABLED, HOLD, ACTIVE, FAULT, driven}
 use Rattle.device.specs.declared.Device.{Device}
 
@@ -20,9 +21,9 @@ errorFits state error = if state is FAULT then not (error is 0) else error is 0
 unfoldable pub rests : Device → Bool
 rests d = driven (d .state) || d .block .position =? pos 0
 
--- one of the four states, with a fitting error code, at rest where it must be, and a sound block
+-- one of the four states, with a fitting error code, at rest where it must be, with sound maps and a sound block
 unfoldable pub soundDevice : Device → Bool
-soundDevice d = (isState (d .state) && errorFits (d .state) (d .error)) && rests d && soundBlock (d .block)
+soundDevice d = (isState (d .state) && errorFits (d .state) (d .error)) && rests d && soundMaps (d .maps) && soundBlock (d .block)
 
 -- what the functions of a device ask
 pub record Sound (d : Device) : Type 0 where

@@ -1,15 +1,17 @@
-// The device: its four states, the control word, faults, ticks and jumps, and what can be asked of it.
+// The device: its four states, the control word, faults, ticks and jumps, and what can be asked of it. It holds the maps of process data,
+// which no event of its own changes.
 ghost use mathlib.Core.Path.{_≡_};
 ghost use mathlib.Core.Bool.{_&&_};
 ghost use Rattle.device.specs.States.{fromDisabled, fromHold, fromActive, fromFault, nextState};
 ghost use Rattle.device.specs.States as States;
-ghost use Rattle.device.specs.Device.{freshDevice, withBlock};
+ghost use Rattle.device.specs.Device.{freshDevice, withBlock, withMaps};
 ghost use Rattle.device.specs.Events.{blockIn, errorIn, controlled, faulted, tickDevice, jumpDevice};
 ghost use Rattle.device.specs.Events as Events;
 ghost use Rattle.device.specs.Queries.{targetMet, statusOf, deviceTarget, deviceCommand, deviceTicksToGo};
 ghost use Rattle.device.specs.Sound.{isState, errorFits, soundDevice, Sound};
 ghost use Rattle.device.specs.Sound as Sounds;
 use block::Block;
+use mapping::Maps;
 
 pub struct Device {
     pub block: Block,
@@ -19,6 +21,8 @@ pub struct Device {
     pub control: u16,
     // the first fault's code
     pub error: u16,
+    // what is received and sent as process data
+    pub maps: Maps,
 }
 
 pub const DISABLED: u8 = 0;
@@ -64,6 +68,7 @@ pub fn fresh() -> Device
         state: DISABLED,
         control: 0,
         error: 0,
+        maps: mapping::fresh(),
     }
 }
 
@@ -73,6 +78,15 @@ pub fn with_block(device: Device, block: Block) -> Device
 {
     let mut other = device;
     other.block = block;
+    other
+}
+
+// The device with other maps.
+pub fn with_maps(device: Device, maps: Maps) -> Device
+    ensures { λ r. ⌜ r ≡ withMaps maps device ⌝ }
+{
+    let mut other = device;
+    other.maps = maps;
     other
 }
 
@@ -112,7 +126,11 @@ pub fn is_sound(device: Device) -> bool
     ensures { λ r. ⌜ r ≡ soundDevice device ⌝ }
 {
     let block = device.block;
-    state_fits(device.state, device.error) && rests(device) && block::is_sound(block)
+    let maps = device.maps;
+    state_fits(device.state, device.error)
+        && rests(device)
+        && mapping::is_sound(maps)
+        && block::is_sound(block)
 }
 
 // ---- control words and faults
@@ -185,13 +203,11 @@ fn entering(device: Device, state: u8) -> Device
 {
     let block = device.block;
     let block = block_in(state, block);
-    let error = error_in(state, device.error);
-    Device {
-        block,
-        state,
-        control: device.control,
-        error,
-    }
+    let mut entered = device;
+    entered.block = block;
+    entered.state = state;
+    entered.error = error_in(state, device.error);
+    entered
 }
 
 // What an accepted control word does.

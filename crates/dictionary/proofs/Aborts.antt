@@ -19,17 +19,19 @@ use Rattle.objects.specs.declared.Place.the-variants.{At, Nowhere}
 use Rattle.objects.specs.declared.Entry.{Entry}
 use Rattle.objects.specs.declared.Entry.the-variants.{Value, Fixed, Missing}
 use Rattle.objects.proofs.Rules.{writable-below}
+use Rattle.mapping.specs.declared.Ruling.{Ruling}
+use Rattle.mapping.specs.declared.Ruling.the-variants.{Accepted, WhileCounted, AboveFour, NotMappable}
 use Rattle.device.specs.declared.Device.{Device}
-use Rattle.dictionary.specs.Aborts.{UNKNOWN-COMMAND, NO-OBJECT, NO-SUB-INDEX, READ-ONLY-ENTRY, TOO-MANY-BYTES, TOO-FEW-BYTES, TOO-HIGH, TOO-LOW, NO-SUCH-CHOICE, LIMITS-CROSSED, LOCKED-NOW}
+use Rattle.dictionary.specs.Aborts.{UNKNOWN-COMMAND, NO-OBJECT, NO-SUB-INDEX, READ-ONLY-ENTRY, TOO-MANY-BYTES, TOO-FEW-BYTES, TOO-HIGH, TOO-LOW, NO-SUCH-CHOICE, LIMITS-CROSSED, LOCKED-NOW, MAP-TOO-LONG, NOT-MAPPABLE}
 use Rattle.dictionary.specs.Named.{Named, value, byte, nothing, entered, located, named}
-use Rattle.dictionary.specs.Decide.{sizeCode, rangeCode, crosses, isLocked, verdictOn, readOf, readDecision, writeOf, writeDecision}
+use Rattle.dictionary.specs.Decide.{sizeCode, rangeCode, crosses, isLocked, mapRuling, ruled, verdictOn, readOf, readDecision, writeOf, writeDecision}
 use Rattle.dictionary.specs.declared.Decision.{Decision}
 use Rattle.dictionary.specs.declared.Decision.the-variants.{Read, Write, Abort}
 use Rattle.dictionary.proofs.Laws.{InTable, named-in-table}
 
 -- the codes of all places but the fifth
 abbrev pub OTHERS : List ℕ
-OTHERS = UNKNOWN-COMMAND ∷ NO-OBJECT ∷ NO-SUB-INDEX ∷ READ-ONLY-ENTRY ∷ TOO-HIGH ∷ TOO-LOW ∷ NO-SUCH-CHOICE ∷ LIMITS-CROSSED ∷ LOCKED-NOW ∷ []
+OTHERS = UNKNOWN-COMMAND ∷ NO-OBJECT ∷ NO-SUB-INDEX ∷ READ-ONLY-ENTRY ∷ TOO-HIGH ∷ TOO-LOW ∷ NO-SUCH-CHOICE ∷ LIMITS-CROSSED ∷ LOCKED-NOW ∷ MAP-TOO-LONG ∷ NOT-MAPPABLE ∷ []
 
 abbrev pub Other : ℕ → Type 0
 Other code = code among OTHERS ≡ true
@@ -64,7 +66,13 @@ by-verdict P d place size x differ other written =
     (λ n. by-test P (ltZ (row .high) x) (λ h. other _ (range-other (row .choice) TOO-HIGH refl))
     (λ h. by-test P (ltZ x (row .low)) (λ l. other _ (range-other (row .choice) TOO-LOW refl))
     (λ l. by-test P (crosses d place x) (λ c. other LIMITS-CROSSED refl)
-    (λ c. by-test P (isLocked (row .lock) (d .state)) (λ k. other LOCKED-NOW refl) (λ k. written))))))
+    (λ c. by-test P (isLocked (row .lock) (d .state)) (λ k. other LOCKED-NOW refl) (λ k. by-ruling (mapRuling d place x)))))))
+  where
+    by-ruling : (r : Ruling) → P (ruled r place x)
+    by-ruling Accepted = written
+    by-ruling WhileCounted = other LOCKED-NOW refl
+    by-ruling AboveFour = other MAP-TOO-LONG refl
+    by-ruling NotMappable = other NOT-MAPPABLE refl
 
 -- ---- decisions
 
@@ -75,7 +83,7 @@ OtherCode (byte number) = Unit {0}
 OtherCode (nothing code) = Other code
 
 entered-code : (place : ℕ) (entry : Entry) → OtherCode (entered place entry)
-entered-code place Value = tt
+entered-code place (Value k) = tt
 entered-code place (Fixed number) = tt
 entered-code place Missing = refl
 

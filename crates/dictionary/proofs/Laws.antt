@@ -1,6 +1,6 @@
 -- Where the numbers of the dictionary lie: places within the table, values within their rows' ranges, and what an accepted write has shown.
-use mathlib.Core.Bool.{Bool, true, false, not, cond}
-use mathlib.Core.Path.{_≡_, refl, sym, _∙_}
+use mathlib.Core.Bool.{Bool, true, false, cond}
+use mathlib.Core.Path.{_≡_, refl, sym, ap, _∙_}
 use Prim.Native.Nat.{ℕ, _<_}
 use native.Mathlib.Omega.{arith}
 use borrow.Author.Tests.{eqb-true, eq-eqb, not-false}
@@ -11,18 +11,22 @@ use mir.Syntax.{w16}
 use mir.Val.{Fits}
 use Rattle.integers.specs.Range.{Within}
 use Rattle.integers.proofs.Linear.{ints}
-use Rattle.integers.proofs.Cases.{by-test, apart}
+use Rattle.integers.specs.Words.{each, _is_}
+use Rattle.integers.proofs.Cases.{by-test, clash, apart}
+use Rattle.integers.proofs.Each.{each-at}
 use Rattle.objects.specs.Places.{SETTINGS, SET-POINT, CONTROL-WORD, COMMAND, ROWS}
 use Rattle.objects.specs.Table.{objects, rowAt, InRange}
-use Rattle.objects.specs.Lookup.{placeOf, entryAt}
+use Rattle.objects.specs.Lookup.{placeFrom, placeOf, recordEntry, entryAt}
 use Rattle.objects.specs.declared.Place.{Place}
 use Rattle.objects.specs.declared.Place.the-variants.{At, Nowhere}
 use Rattle.objects.specs.declared.Entry.{Entry}
 use Rattle.objects.specs.declared.Entry.the-variants.{Value, Fixed, Missing}
-use Rattle.objects.proofs.Rules.{found-below, writable-below}
+use Rattle.objects.proofs.Rules.{found-below, value-below, writable-below}
 use Rattle.block.specs.Block.{setting}
 use Rattle.block.proofs.Sound.{block-parts}
 use Rattle.block.proofs.Laws.{command-within}
+use Rattle.mapping.specs.declared.Ruling.{Ruling}
+use Rattle.mapping.specs.declared.Ruling.the-variants.{Accepted, WhileCounted, AboveFour, NotMappable}
 use Rattle.device.specs.States.{driven}
 use Rattle.device.specs.Queries.{deviceCommand}
 use Rattle.device.specs.Sound.{Sound}
@@ -30,7 +34,7 @@ use Rattle.device.specs.declared.Device.{Device}
 use Rattle.device.proofs.Laws.{block-of-sound}
 use Rattle.dictionary.specs.Named.{Named, value, byte, nothing, entered, located, named}
 use Rattle.dictionary.specs.Values.{valueAt}
-use Rattle.dictionary.specs.Decide.{verdictOn, readOf, writeOf}
+use Rattle.dictionary.specs.Decide.{crosses, isLocked, mapRuling, ruled, verdictOn, readOf, writeOf, writeDecision}
 use Rattle.dictionary.specs.Asked.{Valued, Writing, Writes, Decided}
 use Rattle.dictionary.specs.Accept.{Accept}
 use Rattle.dictionary.specs.declared.Decision.{Decision}
@@ -44,18 +48,33 @@ InTable (value place) = place < ROWS
 InTable (byte number) = Unit {0}
 InTable (nothing code) = Unit {0}
 
-entered-in-table : (place : ℕ) (entry : Entry) → place < ROWS → InTable (entered place entry)
-entered-in-table place Value h = h
-entered-in-table place (Fixed number) h = tt
-entered-in-table place Missing h = tt
+entered-in-table : (place sub : ℕ) (entry : Entry) → entryAt (rowAt place .entries) sub ≡ entry → place < ROWS → InTable (entered place entry)
+entered-in-table place sub (Value k) e h = value-below place sub k h e
+entered-in-table place sub (Fixed number) e h = tt
+entered-in-table place sub Missing e h = tt
 
 pub named-in-table : (index sub : ℕ) → InTable (named index sub)
 unfolding named
 named-in-table index sub = by (placeOf index) refl
   where
     by : (p : Place) → placeOf index ≡ p → InTable (located p sub)
-    by (At place) e = entered-in-table place (entryAt (rowAt place .entries) sub) (found-below index place e)
+    by (At place) e = entered-in-table place sub (entryAt (rowAt place .entries) sub) refl (found-below index place e)
     by Nowhere e = tt
+
+-- each row is named by its index and sub-index
+abbrev isValue : Named → ℕ → Bool
+isValue (value k) place = k is place
+isValue (byte number) place = false
+isValue (nothing code) place = false
+
+is-value : (n : Named) (place : ℕ) → isValue n place ≡ true → n ≡ value place
+is-value (value k) place e = ap value (eqb-true k place e)
+is-value (byte number) place e = clash e refl
+is-value (nothing code) place e = clash e refl
+
+pub each-row-is-named : (place : ℕ) → place < ROWS → named (rowAt place .index) (rowAt place .sub) ≡ value place
+unfolding each objects named placeOf placeFrom entryAt recordEntry
+each-row-is-named place h = is-value _ place (each-at ROWS (λ k. isValue (named (rowAt k .index) (rowAt k .sub)) k) place refl h)
 
 -- ---- values
 
@@ -93,17 +112,26 @@ passed : (t : Bool) (code : ℕ) (rest : Decision) (place : ℕ) (x : ℤ) → c
 passed true code rest place x e = apart (cc)
 passed false code rest place x e = (refl, e)
 
-between : {low high x : ℤ} → ltZ high x ≡ false → ltZ x low ≡ false → Within low high x
+let-through : (r : Ruling) (place : ℕ) (x : ℤ) (k : ℕ) (v : ℤ) → ruled r place x ≡ Write k v → (r ≡ Accepted) × (place ≡ k) × (x ≡ v)
+let-through Accepted place x k v e = (refl, cc, cc)
+let-through WhileCounted place x k v e = apart (cc)
+let-through AboveFour place x k v e = apart (cc)
+let-through NotMappable place x k v e = apart (cc)
+
+pub between : {low high x : ℤ} → ltZ high x ≡ false → ltZ x low ≡ false → Within low high x
 between {low} {high} {x} h l = omega (arith, ints)
 
--- what no rule forbids is decided to be written
-pub is-accepted : {d : Device} {place size : ℕ} {x : ℤ} → Accept d place size x → verdictOn d place size x ≡ Write place x
+-- what passes every test before them is decided by the rules of a map
+pub ruled-last : (d : Device) (place size : ℕ) (x : ℤ) → rowAt place .writable ≡ true → rowAt place .size ≡ size → InRange place x → crosses d place x ≡ false → isLocked (rowAt place .lock) (d .state) ≡ false → verdictOn d place size x ≡ ruled (mapRuling d place x) place x
 unfolding verdictOn
-is-accepted {d} {place} {size} {x} a =
-    let w = a .range in
+ruled-last d place size x writable sized w uncrossed unlocked =
     let high : ltZ (rowAt place .high) x ≡ false = omega (arith, ints) in
     let low : ltZ x (rowAt place .low) ≡ false = omega (arith, ints) in
-    rw (a .writable, eq-eqb (rowAt place .size) size (a .sized), high, low, a .uncrossed, a .unlocked)
+    rw (writable, eq-eqb (rowAt place .size) size sized, high, low, uncrossed, unlocked)
+
+-- so what no rule forbids is decided to be written
+pub is-accepted : {d : Device} {place size : ℕ} {x : ℤ} → Accept d place size x → verdictOn d place size x ≡ Write place x
+is-accepted {d} {place} {size} {x} a = ruled-last d place size x (a .writable) (a .sized) (a .range) (a .uncrossed) (a .unlocked) ∙ rw (a .unruled)
 
 -- and a write that was accepted is one that no rule forbids, of that value to that place
 pub accepted : (d : Device) (place size : ℕ) (x : ℤ) (k : ℕ) (v : ℤ) → verdictOn d place size x ≡ Write k v → Accept d place size x × (place ≡ k) × (x ≡ v)
@@ -115,16 +143,17 @@ accepted d place size x k v e =
     let f = passed _ _ _ k v (c .1) in
     let g = passed _ _ _ k v (f .1) in
     let h = passed _ _ _ k v (g .1) in
-    let w : Write place x ≡ Write k v = h .1 in (
+    let w = let-through (mapRuling d place x) place x k v (h .1) in (
       record {
         writable = not-false _ (a .0);
         sized = eqb-true (rowAt place .size) size (not-false _ (b .0));
         range = between (c .0) (f .0);
         uncrossed = g .0;
         unlocked = h .0;
+        unruled = w .0;
       },
-      (cc),
-      (cc),
+      w .1,
+      w .2,
     )
 
 -- what is written is a value for an object that can be written
@@ -150,3 +179,7 @@ unfolding writeOf
 write-decided d size number (value place) h = record { writes = verdict-writes d place size _ h _ refl }
 write-decided d size number (byte fixed) h = record { writes = tt }
 write-decided d size number (nothing code) h = record { writes = tt }
+
+pub write-decision-decided : (d : Device) (index sub size number : ℕ) → Decided (writeDecision d index sub size number)
+unfolding writeDecision
+write-decision-decided d index sub size number = write-decided d size number (named index sub) (named-in-table index sub)

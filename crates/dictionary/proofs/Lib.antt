@@ -1,4 +1,5 @@
 pub mod Laws
+pub mod Maps
 pub mod Written
 pub mod Decisions
 pub mod Aborts

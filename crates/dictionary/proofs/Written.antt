@@ -3,9 +3,9 @@ use mathlib.Core.Bool.{false}
 use mathlib.Core.List.{List}
 use mathlib.Core.Logic.{_≢_}
 use mathlib.Core.Path.{_≡_, refl, sym, ap, _∙_}
-use Prim.Native.Nat.{ℕ, _<_}
+use Prim.Native.Nat.{ℕ, _-_, _<_}
 use native.Mathlib.Omega.{arith}
-use borrow.Author.Tests.{lt-ltb, eqb-true, eqb-false}
+use borrow.Author.Tests.{lt-ltb, le-ltb, eqb-true, eqb-false}
 use lib.Dec.{eqb}
 use lib.IntN.{ℤ, pos, natAbs}
 use lib.ListN.{length, set, length-set}
@@ -13,19 +13,25 @@ use lib.Seq.{getD-set-same, getD-set-other}
 use lib.Signed.{ltZ, _≤ℤ_, pos-natAbs, yes-nonNeg}
 use Rattle.integers.proofs.Linear.{ints}
 use Rattle.integers.proofs.Cases.{by-cases, by-less}
-use Rattle.objects.specs.Places.{SETTINGS, SET-POINT, CONTROL-WORD, UPPER-LIMIT, LOWER-LIMIT, WRITABLE}
+use Rattle.objects.specs.Places.{SETTINGS, RECEIVE-MAP, TRANSMIT-MAP, SET-POINT, CONTROL-WORD, UPPER-LIMIT, LOWER-LIMIT, WRITABLE}
 use Rattle.objects.specs.Table.{objects, InRange}
+use Rattle.objects.proofs.Rules.{receive-map, transmit-map}
 use Rattle.block.specs.Block.{at, setting, withSetting, withSetpoint}
 use Rattle.block.proofs.Sound.{SettingsParts, block-parts, with-settings-sound, with-setpoint-sound}
+use Rattle.mapping.specs.Maps.{standsAt}
+use Rattle.mapping.specs.declared.Maps.{Maps}
+use Rattle.mapping.proofs.Laws.{at-written, at-others}
+use Rattle.mapping.proofs.Sound.{receive-kept, transmit-kept}
 use Rattle.device.specs.Device.{withBlock}
-use Rattle.device.specs.Events.{entering, controlled}
+use Rattle.device.specs.Events.{controlled}
 use Rattle.device.specs.Sound.{Sound}
 use Rattle.device.specs.declared.Device.{Device}
-use Rattle.device.proofs.Laws.{block-of-sound, with-block-sound, position-rests, controlled-sound}
+use Rattle.device.proofs.Laws.{device-parts, receive-parts, transmit-parts, block-of-sound, with-block-sound, with-maps-sound, position-rests, controlled-sound}
 use Rattle.device.proofs.Kept.{controlled-keeps}
-use Rattle.dictionary.specs.Values.{valueAt, writtenTo}
+use Rattle.dictionary.specs.Values.{valueAt, receiveWritten, transmitWritten, writtenTo}
 use Rattle.dictionary.specs.Decide.{crosses}
 use Rattle.dictionary.specs.Accept.{Accept}
+use Rattle.dictionary.proofs.Maps.{OfReceive, OfTransmit, past-settings, sub-most, sub-apart, from-zero, value-of-receive, value-of-transmit, receive-ruled, transmit-ruled}
 
 -- ---- where a write goes
 
@@ -33,6 +39,14 @@ module _ (place : ℕ) (x : ℤ) (d : Device) where
   to-setting : place < SETTINGS → writtenTo place x d ≡ withBlock (withSetting place x (d .block)) d
   unfolding writtenTo
   to-setting h = rw (lt-ltb place SETTINGS h)
+
+  to-receive : OfReceive place → writtenTo place x d ≡ receiveWritten (place - RECEIVE-MAP) (natAbs x) d
+  unfolding writtenTo
+  to-receive m = rw (le-ltb place SETTINGS (m .0), lt-ltb place TRANSMIT-MAP (m .1))
+
+  to-transmit : OfTransmit place → writtenTo place x d ≡ transmitWritten (place - TRANSMIT-MAP) (natAbs x) d
+  unfolding writtenTo
+  to-transmit m = rw (le-ltb place SETTINGS (past-settings m), le-ltb place TRANSMIT-MAP (m .0), lt-ltb place SET-POINT (m .1))
 
   to-setpoint : place ≡ SET-POINT → writtenTo place x d ≡ withBlock (withSetpoint x (d .block)) d
   unfolding writtenTo
@@ -42,10 +56,13 @@ module _ (place : ℕ) (x : ℤ) (d : Device) where
   unfolding writtenTo
   to-control e = rw e
 
--- what can be written is a setting, the set point or the control word
-by-target {ℓ} : (place : ℕ) {X : Type ℓ} → place < WRITABLE → (place < SETTINGS → X) → (place ≡ SET-POINT → X) → (place ≡ CONTROL-WORD → X) → X
-by-target place h f g k =
-    by-less place SETTINGS f (λ l. by-cases (eqb place SET-POINT) (λ e. g (eqb-true place SET-POINT e)) (λ e. k (omega (arith, eqb-false place SET-POINT e))))
+-- what can be written is a setting, of a map, the set point or the control word
+by-target {ℓ} : (place : ℕ) {X : Type ℓ} → place < WRITABLE → (place < SETTINGS → X) → (OfReceive place → X) → (OfTransmit place → X) → (place ≡ SET-POINT → X) → (place ≡ CONTROL-WORD → X) → X
+by-target place h f r t g k =
+    by-less place SETTINGS f
+    (λ l. by-less place TRANSMIT-MAP (λ m. r (l, m))
+    (λ l. by-less place SET-POINT (λ m. t (l, m))
+    (λ l. by-cases (eqb place SET-POINT) (λ e. g (eqb-true place SET-POINT e)) (λ e. k (omega (arith, eqb-false place SET-POINT e))))))
 
 -- ---- what is read where
 
@@ -55,37 +72,67 @@ value-of-setting d k h = rw (lt-ltb k SETTINGS h)
 
 -- ---- the object has the value
 
+-- what is not below zero is the number that it is written as
+written-number : {x : ℤ} → pos 0 ≤ℤ x → pos (natAbs x) ≡ x
+written-number {x} h = pos-natAbs x (yes-nonNeg h)
+
 pub written-is-read : {d : Device} → Sound d → (place : ℕ) (x : ℤ) → place < WRITABLE → InRange place x → valueAt (writtenTo place x d) place ≡ x
 written-is-read {d} s place x h w =
     by-target place h
     (λ l. let long : length (d .block .settings) ≡ SETTINGS = block-parts (block-of-sound s) .settings .long in
     rw (to-setting place x d l, value-of-setting _ place l) (getD-set-same (d .block .settings) place x (pos 0) (omega arith)))
+    (λ m. rw (to-receive place x d m, value-of-receive _ place m, at-written (place - RECEIVE-MAP) (natAbs x) (d .maps .receive) (rw (receive-parts s .long) (sub-most m)))
+    (written-number (from-zero receive-map m w)))
+    (λ m. rw (to-transmit place x d m, value-of-transmit _ place m, at-written (place - TRANSMIT-MAP) (natAbs x) (d .maps .transmit) (rw (transmit-parts s .long) (sub-most m)))
+    (written-number (from-zero transmit-map m w)))
     (λ e. rw (to-setpoint place x d e) (unfold valueAt in rw e))
-    (λ e. rw (to-control place x d e) (unfold valueAt controlled in rw e (pos-natAbs x (yes-nonNeg (from-zero e w)))))
+    (λ e. rw (to-control place x d e) (unfold valueAt controlled in rw e (written-number (word-from-zero e w))))
   where
-    from-zero : place ≡ CONTROL-WORD → InRange place x → pos 0 ≤ℤ x
-    from-zero e w = unfold objects in (rw e at w) .from
+    word-from-zero : place ≡ CONTROL-WORD → InRange place x → pos 0 ≤ℤ x
+    word-from-zero e w = unfold objects in (rw e at w) .from
 
 -- ---- every other object that can be written keeps its value
 
--- of two devices with the same setting at k, set point and control word, the same is read there
-same-value : (d e : Device) (k : ℕ) → k < WRITABLE → (k < SETTINGS → setting (d .block) k ≡ setting (e .block) k) → (k ≡ SET-POINT → d .block .setpoint ≡ e .block .setpoint) → (k ≡ CONTROL-WORD → d .control ≡ e .control) → valueAt d k ≡ valueAt e k
-same-value d e k m f g h =
+-- of two devices the same is read at k, where what stands behind it is the same
+record Same (d e : Device) (k : ℕ) : Type 0 where
+  settings : k < SETTINGS → setting (d .block) k ≡ setting (e .block) k
+  receive : OfReceive k → standsAt (d .maps .receive) (k - RECEIVE-MAP) ≡ standsAt (e .maps .receive) (k - RECEIVE-MAP)
+  transmit : OfTransmit k → standsAt (d .maps .transmit) (k - TRANSMIT-MAP) ≡ standsAt (e .maps .transmit) (k - TRANSMIT-MAP)
+  setpoint : k ≡ SET-POINT → d .block .setpoint ≡ e .block .setpoint
+  control : k ≡ CONTROL-WORD → d .control ≡ e .control
+
+same-value : (d e : Device) (k : ℕ) → k < WRITABLE → Same d e k → valueAt d k ≡ valueAt e k
+same-value d e k m s =
     by-target k m
-    (λ l. rw (value-of-setting d k l, value-of-setting e k l) (f l))
-    (λ q. unfold valueAt in rw q (g q))
-    (λ q. unfold valueAt in rw q (ap pos (h q)))
+    (λ l. rw (value-of-setting d k l, value-of-setting e k l) (s .settings l))
+    (λ r. rw (value-of-receive d k r, value-of-receive e k r) (ap pos (s .receive r)))
+    (λ t. rw (value-of-transmit d k t, value-of-transmit e k t) (ap pos (s .transmit t)))
+    (λ q. unfold valueAt in rw q (s .setpoint q))
+    (λ q. unfold valueAt in rw q (ap pos (s .control q)))
 
 pub others-are-kept : (d : Device) (place k : ℕ) (x : ℤ) → place < WRITABLE → k < WRITABLE → k ≢ place → valueAt (writtenTo place x d) k ≡ valueAt d k
 others-are-kept d place k x h m n =
     by-target place h
-    (λ l. rw (to-setting place x d l) (same-value _ d k m (λ q. getD-set-other (d .block .settings) place k x (pos 0) n) (λ q. refl) (λ q. refl)))
-    (λ e. rw (to-setpoint place x d e) (same-value _ d k m (λ q. refl) (λ q. absurd (n (q ∙ sym e))) (λ q. refl)))
+    (λ l. rw (to-setting place x d l) (same-value _ d k m
+    (record { settings = λ q. getD-set-other (d .block .settings) place k x (pos 0) n; receive = λ q. refl; transmit = λ q. refl; setpoint = λ q. refl; control = λ q. refl })))
+    (λ r. rw (to-receive place x d r) (same-value _ d k m
+    (record { settings = λ q. refl; receive = λ q. at-others (place - RECEIVE-MAP) (k - RECEIVE-MAP) (natAbs x) (d .maps .receive) (λ e. n (sub-apart r q e)); transmit = λ q. refl; setpoint = λ q. refl; control = λ q. refl })))
+    (λ t. rw (to-transmit place x d t) (same-value _ d k m
+    (record { settings = λ q. refl; receive = λ q. refl; transmit = λ q. at-others (place - TRANSMIT-MAP) (k - TRANSMIT-MAP) (natAbs x) (d .maps .transmit) (λ e. n (sub-apart t q e)); setpoint = λ q. refl; control = λ q. refl })))
+    (λ e. rw (to-setpoint place x d e) (same-value _ d k m
+    (record { settings = λ q. refl; receive = λ q. refl; transmit = λ q. refl; setpoint = λ q. absurd (n (q ∙ sym e)); control = λ q. refl })))
     (λ e. let w = controlled-keeps (natAbs x) d in
     rw (to-control place x d e)
-    (same-value (controlled (natAbs x) d) d k m (λ q. ap (λ (l : List ℤ). at l k) (w .settings)) (λ q. w .setpoint) (λ q. absurd (n (q ∙ sym e)))))
+    (same-value (controlled (natAbs x) d) d k m
+    (record {
+      settings = λ q. ap (λ (l : List ℤ). at l k) (w .settings);
+      receive = λ q. ap (λ (l : Maps). standsAt (l .receive) (k - RECEIVE-MAP)) (w .maps);
+      transmit = λ q. ap (λ (l : Maps). standsAt (l .transmit) (k - TRANSMIT-MAP)) (w .maps);
+      setpoint = λ q. w .setpoint;
+      control = λ q. absurd (n (q ∙ sym e));
+    })))
 
--- ---- what else stays: all but the block's setting or set point, unless a control word was written
+-- ---- what else stays: state, error code and position, unless a control word was written
 
 pub record Aside (d e : Device) : Type 0 where
   pub state : e .state ≡ d .state
@@ -96,6 +143,8 @@ pub written-aside : (d : Device) (place : ℕ) (x : ℤ) → place < WRITABLE �
 written-aside d place x h n =
     by-target place h
     (λ l. rw (to-setting place x d l) (record { state = refl; error = refl; position = refl }))
+    (λ m. rw (to-receive place x d m) (record { state = refl; error = refl; position = refl }))
+    (λ m. rw (to-transmit place x d m) (record { state = refl; error = refl; position = refl }))
     (λ e. rw (to-setpoint place x d e) (record { state = refl; error = refl; position = refl }))
     (λ e. absurd (n e))
 
@@ -137,8 +186,11 @@ settings-kept d place x w c s =
 pub written-sound : {d : Device} → Sound d → (place size : ℕ) (x : ℤ) → place < WRITABLE → Accept d place size x → Sound (writtenTo place x d)
 written-sound {d} s place size x h a =
     let b = block-of-sound s in
+    let maps = device-parts s .mapped in
     by-target place h
     (λ l. rw (to-setting place x d l)
     (with-block-sound s (with-settings-sound b (settings-kept d place x (a .range) (a .uncrossed) (block-parts b .settings))) (position-rests _ s refl)))
+    (λ m. rw (to-receive place x d m) (with-maps-sound s (receive-kept (d .maps) (place - RECEIVE-MAP) (natAbs x) maps (sub-most m) (receive-ruled d x m (a .unruled)))))
+    (λ m. rw (to-transmit place x d m) (with-maps-sound s (transmit-kept (d .maps) (place - TRANSMIT-MAP) (natAbs x) maps (sub-most m) (transmit-ruled d x m (a .unruled)))))
     (λ e. rw (to-setpoint place x d e) (with-block-sound s (with-setpoint-sound b (rw e at (a .range))) (position-rests _ s refl)))
     (λ e. rw (to-control place x d e) (controlled-sound s (natAbs x)))

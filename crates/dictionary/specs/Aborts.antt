@@ -1,4 +1,4 @@
--- Document 01, "SDO": the codes of the aborts, in order; the fifth as wish 1 of document 02 has it.
+-- Document 01, "SDO": the codes of the aborts, in order; the fifth as wish 1 of document 02 has it, and those after the eighth as wish 2.
 use Prim.Native.Nat.{ℕ}
 
 -- 1: another command byte
@@ -38,6 +38,14 @@ NO-SUCH-CHOICE = 0x06090030
 abbrev pub LIMITS-CROSSED : ℕ
 LIMITS-CROSSED = 0x06090036
 
--- 8: locked in this state
+-- 8: locked in this state; 9: an entry of a map while its sub 0 isn't 0
 abbrev pub LOCKED-NOW : ℕ
 LOCKED-NOW = 0x08000022
+
+-- 10: more entries than a map has
+abbrev pub MAP-TOO-LONG : ℕ
+MAP-TOO-LONG = 0x06040042
+
+-- 11: an entry that may not be mapped
+abbrev pub NOT-MAPPABLE : ℕ
+NOT-MAPPABLE = 0x06040041

@@ -6,17 +6,19 @@ use lib.IntN.{ℤ}
 use Rattle.objects.specs.Places.{WRITABLE}
 use Rattle.objects.specs.Table.{rowAt, InRange}
 use Rattle.coding.specs.Coding.{valueOf}
+use Rattle.mapping.specs.declared.Ruling.the-variants.{Accepted}
 use Rattle.device.specs.declared.Device.{Device}
 use Rattle.dictionary.specs.Named.{value, named}
-use Rattle.dictionary.specs.Decide.{crosses, isLocked}
+use Rattle.dictionary.specs.Decide.{crosses, isLocked, mapRuling}
 
--- a write of so many bytes that stand for a value, to the object at a place, which passes places 4 to 8
+-- a write of so many bytes that stand for a value, to a place, which passes places 4 to 11
 pub record Accept (d : Device) (place size : ℕ) (x : ℤ) : Type 0 where
   pub writable : rowAt place .writable ≡ true
   pub sized : rowAt place .size ≡ size
   pub range : InRange place x
   pub uncrossed : crosses d place x ≡ false
   pub unlocked : isLocked (rowAt place .lock) (d .state) ≡ false
+  pub unruled : mapRuling d place x ≡ Accepted
 
 -- a decided write of a value to a place, from a write of so many bytes of a number to an index and a sub-index
 pub record Origin (d : Device) (index sub size number place : ℕ) (x : ℤ) : Type 0 where

@@ -1,8 +1,8 @@
 -- What the functions of the dictionary ask of what they are handed, and what `value_at` gives.
 use mathlib.Core.Path.{_≡_}
-use Prim.Native.Nat.{ℕ, _<_, _≤_}
+use Prim.Native.Nat.{ℕ, _+_, _<_, _≤_}
 use lib.IntN.{ℤ}
-use Rattle.objects.specs.Places.{SETTINGS, WRITABLE, ROWS}
+use Rattle.objects.specs.Places.{RECEIVE-MAP, SET-POINT, WRITABLE, ROWS}
 use Rattle.objects.specs.Table.{rowAt, InRange}
 use Rattle.objects.specs.declared.Row.{Row}
 use Rattle.device.specs.Sound.{Sound}
@@ -16,17 +16,36 @@ pub record Placed (d : Device) (place : ℕ) : Type 0 where
   pub sound : Sound d
   pub below : place < ROWS
 
--- and one that is no stored setting's
+-- and one that is neither a stored setting's nor a map's
 pub record Other (d : Device) (place : ℕ) : Type 0 where
   pub placed : Placed d place
-  pub past : SETTINGS ≤ place
+  pub past : SET-POINT ≤ place
+
+-- a place of a map
+pub record OfMap (place : ℕ) : Type 0 where
+  pub from : RECEIVE-MAP ≤ place
+  pub below : place < SET-POINT
+
+-- one of a sound device
+pub record Mapped (d : Device) (place : ℕ) : Type 0 where
+  pub sound : Sound d
+  pub of-map : OfMap place
 
 -- a sound device, a place of the table, and its row
 pub record Looked (d : Device) (place : ℕ) (row : Row) : Type 0 where
   pub placed : Placed d place
   pub looked : row ≡ rowAt place
 
--- the value of the object at a place, which lies in its row's range
+-- the place of an object's first value, its row, and a value so many rows after it
+pub record After (place : ℕ) (row : Row) (k : ℕ) : Type 0 where
+  pub looked : row ≡ rowAt place
+  pub below : place + k < ROWS
+
+-- a value in its row's range
+pub record Ranged (place : ℕ) (x : ℤ) : Type 0 where
+  pub range : InRange place x
+
+-- the value at a place, which lies in its row's range
 pub record Valued (d : Device) (place : ℕ) (r : ℤ) : Type 0 where
   pub value : r ≡ valueAt d place
   pub range : InRange place r
@@ -34,6 +53,11 @@ pub record Valued (d : Device) (place : ℕ) (r : ℤ) : Type 0 where
 -- a value for an object that can be written
 pub record Writing (place : ℕ) (x : ℤ) : Type 0 where
   pub writable : place < WRITABLE
+  pub range : InRange place x
+
+-- and for a map
+pub record MapWriting (place : ℕ) (x : ℤ) : Type 0 where
+  pub of-map : OfMap place
   pub range : InRange place x
 
 -- what a decision writes, if it is a write, is a value for an object that can be written

@@ -1,15 +1,21 @@
--- Document 01, "SDO": what becomes of a read or a write, with the aborts from the second on in their order, and the device after it.
+-- Document 01, "SDO", with wishes 1 and 2 of document 02: what becomes of a read or a write, with the aborts from the second on in their order,
+-- and the device after it.
 use mathlib.Core.Bool.{Bool, false, not, _&&_}
-use Prim.Native.Nat.{ℕ}
-use lib.IntN.{ℤ}
+use Prim.Native.Nat.{ℕ, _-_}
+use lib.IntN.{ℤ, natAbs}
 use Rattle.integers.specs.Words.{if_then_else_, _is_, _below_, _<?_}
-use Rattle.objects.specs.Places.{UPPER-LIMIT, LOWER-LIMIT}
+use Rattle.objects.specs.Places.{UPPER-LIMIT, LOWER-LIMIT, RECEIVE-MAP, TRANSMIT-MAP, SET-POINT}
 use Rattle.objects.specs.Table.{WHILE-ACTIVE, rowAt}
 use Rattle.coding.specs.Coding.{valueOf, numberOf}
 use Rattle.block.specs.Block.{setting}
+use Rattle.mapping.specs.Maps.{RECEIVABLE, SENDABLE}
+use Rattle.mapping.specs.Rules.{rulingOn}
+use Rattle.mapping.specs.declared.Ruling.{Ruling}
+use Rattle.mapping.specs.declared.Ruling.the-variants.{Accepted, WhileCounted, AboveFour, NotMappable}
 use Rattle.device.specs.States.{ACTIVE}
 use Rattle.device.specs.declared.Device.{Device}
-use Rattle.dictionary.specs.Aborts.{READ-ONLY-ENTRY, TOO-MANY-BYTES, TOO-FEW-BYTES, TOO-HIGH, TOO-LOW, NO-SUCH-CHOICE, LIMITS-CROSSED, LOCKED-NOW}
+use Rattle.dictionary.specs.Aborts.{READ-ONLY-ENTRY, TOO-MANY-BYTES, TOO-FEW-BYTES, TOO-HIGH, TOO-LOW, NO-SUCH-CHOICE}
+use Rattle.dictionary.specs.Aborts.{LIMITS-CROSSED, LOCKED-NOW, MAP-TOO-LONG, NOT-MAPPABLE}
 use Rattle.dictionary.specs.Named.{Named, value, byte, nothing, named}
 use Rattle.dictionary.specs.Values.{valueAt, writtenTo}
 use Rattle.dictionary.specs.declared.Decision.{Decision}
@@ -47,7 +53,22 @@ crosses d place x =
 unfoldable pub isLocked : ℕ → ℕ → Bool
 isLocked lock state = lock is WHILE-ACTIVE && state is ACTIVE
 
--- places 4 to 8: a write of so many bytes that stand for a value, to the object at a place
+-- places 9 to 11: what the rules of a map say; elsewhere they allow all
+unfoldable pub mapRuling : Device → ℕ → ℤ → Ruling
+mapRuling d place x =
+    if place below RECEIVE-MAP then Accepted
+    else if place below TRANSMIT-MAP then rulingOn RECEIVABLE (d .maps .receive) (place - RECEIVE-MAP) (natAbs x)
+    else if place below SET-POINT then rulingOn SENDABLE (d .maps .transmit) (place - TRANSMIT-MAP) (natAbs x)
+    else Accepted
+
+-- the decision that a ruling leads to
+abbrev pub ruled : Ruling → ℕ → ℤ → Decision
+ruled Accepted place x = Write place x
+ruled WhileCounted place x = Abort LOCKED-NOW
+ruled AboveFour place x = Abort MAP-TOO-LONG
+ruled NotMappable place x = Abort NOT-MAPPABLE
+
+-- places 4 to 11: a write of so many bytes that stand for a value, to a place
 unfoldable pub verdictOn : Device → ℕ → ℕ → ℤ → Decision
 verdictOn d place size x =
     let row = rowAt place in
@@ -57,7 +78,7 @@ verdictOn d place size x =
     else if x <? row .low then Abort (rangeCode (row .choice) TOO-LOW)
     else if crosses d place x then Abort LIMITS-CROSSED
     else if isLocked (row .lock) (d .state) then Abort LOCKED-NOW
-    else Write place x
+    else ruled (mapRuling d place x) place x
 
 -- what becomes of a write of so many bytes of a number; the object's type says what they stand for
 unfoldable pub writeOf : Device → ℕ → ℕ → Named → Decision

@@ -3,25 +3,32 @@
 ghost use mathlib.Core.Path.{_≡_};
 ghost use Rattle.dictionary.specs.Values.{valueAt, writtenTo};
 ghost use Rattle.dictionary.specs.Named as Named;
-ghost use Rattle.dictionary.specs.Decide.{isLocked, sizeCode, rangeCode, readOf, readDecision, writeOf, writeDecision, carriedOut};
+ghost use Rattle.objects.specs.Table.{rowAt};
+ghost use Prim.Native.Nat.{_+_};
+ghost use Rattle.dictionary.specs.Decide.{isLocked, sizeCode, rangeCode, mapRuling, readOf, readDecision, writeOf, writeDecision, carriedOut};
 ghost use Rattle.dictionary.specs.Decide as Decide;
-ghost use Rattle.dictionary.specs.Asked.{Placed, Other, Looked, Valued, Writing, Decided};
+ghost use Rattle.dictionary.specs.Asked.{Placed, Other, Mapped, Looked, After, Ranged, Valued, Writing, MapWriting, Decided};
 ghost use Rattle.device.specs.Sound.{Sound};
 use device::ACTIVE;
 use device::Device;
+use mapping::RECEIVABLE;
+use mapping::Ruling;
+use mapping::SENDABLE;
 use objects::CONTROL_WORD;
 use objects::ERROR_CODE;
 use objects::Entry;
 use objects::LOWER_LIMIT;
 use objects::Place;
+use objects::RECEIVE_MAP;
 use objects::Row;
 use objects::SET_POINT;
 use objects::SETTINGS;
 use objects::STATUS_WORD;
+use objects::TRANSMIT_MAP;
 use objects::UPPER_LIMIT;
 use objects::WHILE_ACTIVE;
 
-// The aborts, in document 01's order.
+// The aborts, in document 01's order, and those of a map after them.
 pub const UNKNOWN_COMMAND: u32 = 0x05040001;
 
 pub const NO_OBJECT: u32 = 0x06020000;
@@ -44,6 +51,10 @@ pub const LIMITS_CROSSED: u32 = 0x06090036;
 
 pub const LOCKED_NOW: u32 = 0x08000022;
 
+pub const MAP_TOO_LONG: u32 = 0x06040042;
+
+pub const NOT_MAPPABLE: u32 = 0x06040041;
+
 // What becomes of a request: so many bytes of a number read, a value to be written to a place, or an abort with its code.
 pub enum Decision {
     Read { size: u8, number: u32 },
@@ -53,7 +64,22 @@ pub enum Decision {
 
 // ---- values
 
-// The value of an object that is no stored setting.
+// What stands at a place of a map.
+fn map_value(device: Device, place: usize) -> i64
+    requires { ⌜ Mapped device place ⌝ }
+    ensures { λ r. ⌜ Valued device place r ⌝ }
+{
+    let maps = device.maps;
+    if place < TRANSMIT_MAP {
+        let map = maps.receive;
+        mapping::stands_at(map, place - RECEIVE_MAP) as i64
+    } else {
+        let map = maps.transmit;
+        mapping::stands_at(map, place - TRANSMIT_MAP) as i64
+    }
+}
+
+// The value of an object that is neither a stored setting nor a map.
 fn other_value(device: Device, place: usize) -> i64
     requires { ⌜ Other device place ⌝ }
     ensures { λ r. ⌜ Valued device place r ⌝ }
@@ -70,7 +96,7 @@ fn other_value(device: Device, place: usize) -> i64
     }
 }
 
-// The value of the object at a place.
+// The value at a place.
 fn value_at(device: Device, place: usize) -> i64
     requires { ⌜ Placed device place ⌝ }
     ensures { λ r. ⌜ Valued device place r ⌝ }
@@ -78,12 +104,26 @@ fn value_at(device: Device, place: usize) -> i64
     if place < SETTINGS {
         let block = device.block;
         block::setting(block, place)
+    } else if place < SET_POINT {
+        map_value(device, place)
     } else {
         other_value(device, place)
     }
 }
 
 // ---- the decision on a read
+
+// The row so many after an object's first, which is at hand: it is looked up once for an object with one value.
+fn row_after(place: usize, row: Row, k: u8) -> Row
+    requires { ⌜ After place row k ⌝ }
+    ensures { λ r. ⌜ r ≡ rowAt (place + k) ⌝ }
+{
+    if k == 0 {
+        row
+    } else {
+        objects::row_at(place + k as usize)
+    }
+}
 
 // The bytes of an object's value.
 fn read_value(device: Device, place: usize, row: Row) -> Decision
@@ -95,7 +135,7 @@ fn read_value(device: Device, place: usize, row: Row) -> Decision
     Decision::Read { size, number }
 }
 
-// What becomes of a read of an index and a sub-index. The row is looked up once and handed on.
+// What becomes of a read of an index and a sub-index. The row is looked up and handed on.
 pub fn decide_read(device: Device, index: u16, sub: u8) -> Decision
     requires { ⌜ Sound device ⌝ }
     ensures { λ r. ⌜ r ≡ readDecision device index sub ⌝ }
@@ -105,7 +145,9 @@ pub fn decide_read(device: Device, index: u16, sub: u8) -> Decision
         Place::At(place) => {
             let row = objects::row_at(place);
             match objects::entry_at(row.entries, sub) {
-                Entry::Value => read_value(device, place, row),
+                Entry::Value(k) => {
+                    read_value(device, place + k as usize, row_after(place, row, k))
+                }
                 Entry::Fixed(byte) => Decision::Read {
                     size: 1,
                     number: byte as u32,
@@ -155,6 +197,38 @@ fn range_code(choice: bool, code: u32) -> u32
     if choice { NO_SUCH_CHOICE } else { code }
 }
 
+// What the rules of a map say of a write to a place; elsewhere they allow all.
+fn map_ruling(device: Device, place: usize, value: i64) -> Ruling
+    requires { ⌜ Ranged place value ⌝ }
+    ensures { λ r. ⌜ r ≡ mapRuling device place value ⌝ }
+{
+    if place < RECEIVE_MAP {
+        return Ruling::Accepted;
+    }
+    let maps = device.maps;
+    if place < TRANSMIT_MAP {
+        let map = maps.receive;
+        return mapping::ruling_on(RECEIVABLE, map, place - RECEIVE_MAP, value as u32);
+    }
+    if place < SET_POINT {
+        let map = maps.transmit;
+        return mapping::ruling_on(SENDABLE, map, place - TRANSMIT_MAP, value as u32);
+    }
+    Ruling::Accepted
+}
+
+// The decision that a ruling leads to.
+fn ruled(ruling: Ruling, place: usize, value: i64) -> Decision
+    ensures { λ r. ⌜ r ≡ Decide.ruled ruling place value ⌝ }
+{
+    match ruling {
+        Ruling::Accepted => Decision::Write { place, value },
+        Ruling::WhileCounted => Decision::Abort(LOCKED_NOW),
+        Ruling::AboveFour => Decision::Abort(MAP_TOO_LONG),
+        Ruling::NotMappable => Decision::Abort(NOT_MAPPABLE),
+    }
+}
+
 // The aborts of a write of so many bytes of a number, from the fourth on.
 fn write_value(device: Device, place: usize, row: Row, size: u8, number: u32) -> Decision
     requires { ⌜ Looked device place row ⌝ }
@@ -179,10 +253,10 @@ fn write_value(device: Device, place: usize, row: Row, size: u8, number: u32) ->
     if is_locked(row.lock, device.state) {
         return Decision::Abort(LOCKED_NOW);
     }
-    Decision::Write { place, value }
+    ruled(map_ruling(device, place, value), place, value)
 }
 
-// What becomes of a write to an index and a sub-index. The row is looked up once and handed on.
+// What becomes of a write to an index and a sub-index. The row is looked up and handed on.
 pub fn decide_write(device: Device, index: u16, sub: u8, size: u8, number: u32) -> Decision
     requires { ⌜ Sound device ⌝ }
     ensures { λ r. ⌜ r ≡ writeDecision device index sub size number ⌝ }
@@ -192,7 +266,13 @@ pub fn decide_write(device: Device, index: u16, sub: u8, size: u8, number: u32) 
         Place::At(place) => {
             let row = objects::row_at(place);
             match objects::entry_at(row.entries, sub) {
-                Entry::Value => write_value(device, place, row, size, number),
+                Entry::Value(k) => write_value(
+                    device,
+                    place + k as usize,
+                    row_after(place, row, k),
+                    size,
+                    number,
+                ),
                 Entry::Fixed(_) => Decision::Abort(READ_ONLY_ENTRY),
                 Entry::Missing => Decision::Abort(NO_SUB_INDEX),
             }
@@ -202,6 +282,24 @@ pub fn decide_write(device: Device, index: u16, sub: u8, size: u8, number: u32) 
 
 // ---- carrying it out
 
+// An accepted write to a map.
+fn map_written(device: Device, place: usize, value: i64) -> Device
+    requires { ⌜ MapWriting place value ⌝ }
+    ensures { λ r. ⌜ r ≡ writtenTo place value device ⌝ }
+{
+    let maps = device.maps;
+    let number = value as u32;
+    if place < TRANSMIT_MAP {
+        let map = maps.receive;
+        let map = mapping::with_at(map, place - RECEIVE_MAP, number);
+        device::with_maps(device, mapping::with_receive(maps, map))
+    } else {
+        let map = maps.transmit;
+        let map = mapping::with_at(map, place - TRANSMIT_MAP, number);
+        device::with_maps(device, mapping::with_transmit(maps, map))
+    }
+}
+
 // An accepted write.
 fn written_to(device: Device, place: usize, value: i64) -> Device
     requires { ⌜ Writing place value ⌝ }
@@ -210,6 +308,9 @@ fn written_to(device: Device, place: usize, value: i64) -> Device
     let block = device.block;
     if place < SETTINGS {
         return device::with_block(device, block::with_setting(block, place, value));
+    }
+    if place < SET_POINT {
+        return map_written(device, place, value);
     }
     match place {
         SET_POINT => device::with_block(device, block::with_setpoint(block, value)),

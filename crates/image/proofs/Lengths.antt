@@ -40,7 +40,7 @@ unfolding each objects
 sized place =
     by-less place ROWS
     (λ h. sized-from-test (sizeAt place) (each-at ROWS (λ k. is-size (sizeAt k)) place refl h))
-    (λ h. two (ap (λ columns. columns .3) (List·getD-eq-default objects _ h)))
+    (λ h. two (ap (λ columns. columns .4) (List·getD-eq-default objects _ h)))
 
 pub size-most : {n : ℕ} → Sized n → n ≤ 4
 size-most (one e) = omega arith

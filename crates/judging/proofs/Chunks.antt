@@ -6,7 +6,7 @@ use native.Mathlib.Nat.{add-zero, add-suc}
 use native.Mathlib.Omega.{arith}
 use lib.ListN.{length, drop, length-append, length-drop}
 use lib.Seq.{take-append-le, drop-append-le, drop-append-add}
-use Rattle.judging.specs.Judging.{caseAt, judged, judgedAll}
+use Rattle.judging.specs.Judging.{caseAt, judgedCase, judged, judgedAll}
 use Rattle.judging.specs.declared.Tally.{Tally}
 
 -- a record of the first list, and one of the second
@@ -18,16 +18,20 @@ case-second k n a b e =
     let place : 16 * (n + k) ≡ length a + 16 * k = omega arith in
     rw (place, drop-append-add a b (16 * k))
 
+-- one record more; a lemma of its own, so that the inductions below compute nothing of what judges it
+one-more : {case other : List ℕ} {t u : Tally} → case ≡ other → t ≡ u → judgedCase case t ≡ judgedCase other u
+one-more e f = rw (e, f)
+
 -- the records of the first list, and those of both
 judged-first : (n : ℕ) (a b : List ℕ) (t : Tally) → 16 * n ≤ length a → judged n (a ++ b) t ≡ judged n a t
 unfolding judged
 judged-first zero a b t h = refl
-judged-first (suc n) a b t h = rw (case-first n a b (omega arith), judged-first n a b t (omega arith))
+judged-first (suc n) a b t h = one-more (case-first n a b (omega arith)) (judged-first n a b t (omega arith))
 
 judged-both : (m n : ℕ) (a b : List ℕ) (t : Tally) → length a ≡ 16 * n → judged (n + m) (a ++ b) t ≡ judged m b (judged n a t)
 unfolding judged
 judged-both zero n a b t e = rw add-zero (judged-first n a b t (omega arith))
-judged-both (suc m) n a b t e = rw (add-suc, case-second m n a b e, judged-both m n a b t e)
+judged-both (suc m) n a b t e = rw add-suc (one-more (case-second m n a b e) (judged-both m n a b t e))
 
 -- two chunks in a row give what one gives
 pub two-chunks : (a b : List ℕ) (t : Tally) → length a % 16 ≡ 0 → judgedAll (a ++ b) t ≡ judgedAll b (judgedAll a t)

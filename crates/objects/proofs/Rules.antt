@@ -1,21 +1,25 @@
 -- The table's rules, each by a test that is computed over the rows.
 use mathlib.Core.Path.{_≡_, refl, ap, _∙_}
-use mathlib.Core.Bool.{Bool, true, false, not, cond, _||_}
+use mathlib.Core.Bool.{Bool, true, false, not, cond, _&&_, _||_}
 use mathlib.Core.List.{List, [], _∷_}
 use Prim.Native.Nat.{ℕ, suc, _+_, _-_, _≤_, _<_}
 use native.Mathlib.Omega.{arith}
-use borrow.Author.Tests.{eqb-true, ne-eqb, ltb-true}
-use Rattle.integers.specs.Words.{each, _is_}
+use borrow.Author.Tests.{eqb-true, ne-eqb, ltb-true, ltb-false}
+use Rattle.integers.specs.Words.{each, _is_, _=?_}
+use lib.IntN.{pos}
 use lib.ListN.{length}
-use Rattle.integers.proofs.Cases.{by-cases, apart}
-use Rattle.integers.proofs.Each.{each-at}
-use lib.Dec.{ltb}
-use Rattle.objects.specs.Places.{WRITABLE, ROWS}
-use Rattle.objects.specs.Table.{I8, U32, objects, columnsAt, rowAt}
-use Rattle.objects.specs.Lookup.{placeFrom, placeOf}
+use Rattle.integers.proofs.Cases.{by-cases, by-test, apart}
+use Rattle.integers.proofs.Each.{and-split, each-at}
+use Rattle.integers.proofs.Machine.{=?-yes}
+use lib.Dec.{eqb, ltb}
+use Rattle.objects.specs.Places.{RECEIVE-MAP, TRANSMIT-MAP, WRITABLE, ROWS}
+use Rattle.objects.specs.Table.{VARIABLE, MAP, I8, U32, U8, objects, columnsAt, rowAt}
+use Rattle.objects.specs.Lookup.{placeFrom, placeOf, recordEntry, entryAt}
 use Rattle.objects.specs.declared.Columns.{Columns}
 use Rattle.objects.specs.declared.Place.{Place}
 use Rattle.objects.specs.declared.Place.the-variants.{At, Nowhere}
+use Rattle.objects.specs.declared.Entry.{Entry}
+use Rattle.objects.specs.declared.Entry.the-variants.{Value}
 
 abbrev pub isAt : Place → ℕ → Bool
 isAt (At place) k = place is k
@@ -25,10 +29,38 @@ is-at : (p : Place) (k : ℕ) → isAt p k ≡ true → p ≡ At k
 is-at (At place) k e = ap At (eqb-true place k e)
 is-at Nowhere k e = let z : false ≡ true = e in cc
 
--- each row is found by its index
-pub each-row-is-found : (k : ℕ) → k < ROWS → placeOf (rowAt k .index) ≡ At k
-unfolding each placeOf placeFrom objects
-each-row-is-found k h = is-at (placeOf (rowAt k .index)) k (each-at ROWS (λ k. isAt (placeOf (rowAt k .index)) k) k refl h)
+-- ---- the rows of a map
+
+-- the highest value at a sub-index of a map: a byte's at 0, and four bytes' elsewhere
+abbrev pub mostAt : ℕ → ℕ
+mostAt sub = cond (sub is 0) 255 4294967295
+
+-- the range of a map's rows, where they begin at `first`
+abbrev pub IsMap : ℕ → Type 0
+IsMap first = each 5 (λ j. (rowAt (first + j) .low =? pos 0) && (rowAt (first + j) .high =? pos (mostAt j))) ≡ true
+
+pub map-range : (first : ℕ) → IsMap first → (place : ℕ) → first ≤ place → place < first + 5 → (rowAt place .low ≡ pos 0) × (rowAt place .high ≡ pos (mostAt (place - first)))
+map-range first t place h k =
+    let e : first + (place - first) ≡ place = omega arith in
+    let range = and-split _ _ (each-at 5 (λ j. (rowAt (first + j) .low =? pos 0) && (rowAt (first + j) .high =? pos (mostAt j))) (place - first) t (omega arith)) in
+    let low : rowAt (first + (place - first)) .low ≡ pos 0 = =?-yes _ _ (range .0) in
+    let high : rowAt (first + (place - first)) .high ≡ pos (mostAt (place - first)) = =?-yes _ _ (range .1) in
+    (rw e at low, rw e at high)
+
+pub receive-map : IsMap RECEIVE-MAP
+unfolding each objects
+receive-map = refl
+
+pub transmit-map : IsMap TRANSMIT-MAP
+unfolding each objects
+transmit-map = refl
+
+-- the five rows of a map have its index
+pub map-index : (first index : ℕ) → each 5 (λ j. rowAt (first + j) .index is index) ≡ true → (place : ℕ) → first ≤ place → place < first + 5 → rowAt place .index ≡ index
+map-index first index t place h k =
+    let e : first + (place - first) ≡ place = omega arith in
+    let same : rowAt (first + (place - first)) .index ≡ index = eqb-true _ _ (each-at 5 (λ j. rowAt (first + j) .index is index) (place - first) t (omega arith)) in
+    rw e at same
 
 -- a run of n consecutive indexes, in consecutive rows: the test over it is computed
 pub run-is-found : (place from n : ℕ) → each n (λ j. isAt (placeOf (from + j)) (place + j)) ≡ true → (index : ℕ) → from ≤ index → index < from + n → placeOf index ≡ At (place + (index - from))
@@ -64,6 +96,25 @@ pub found-below : (index k : ℕ) → placeOf index ≡ At k → k < ROWS
 unfolding placeOf objects
 found-below index k e = below-from 0 objects index k e
 
+-- the values of a found object are within the table: where it has more than one, it has no more than its entries
+pub value-below : (place sub k : ℕ) → place < ROWS → entryAt (rowAt place .entries) sub ≡ Value k → place + k < ROWS
+unfolding entryAt recordEntry each objects
+value-below place sub k h =
+    by-test P (ltb n sub) (λ t e. apart (cc))
+    (λ t. by-test P (eqb n VARIABLE || eqb n MAP) (λ m e. let same : sub ≡ k = cc in let most = ltb-false n sub t in omega (arith, ltb-true (place + n) ROWS (several m)))
+    (λ m. by-test P (eqb sub 0) (λ z e. apart (cc))
+    (λ z. by-test P (eqb sub 1) (λ o e. let same : 0 ≡ k = cc in omega arith)
+    (λ o. by-test P (eqb sub 2) (λ q e. apart (cc)) (λ q e. apart (cc))))))
+  where
+    n : ℕ
+    n = rowAt place .entries
+
+    P : Entry → Type 0
+    P e = e ≡ Value k → place + k < ROWS
+
+    several : (eqb n VARIABLE || eqb n MAP) ≡ true → ltb (place + n) ROWS ≡ true
+    several m = rw m at (each-at ROWS (λ p. not (eqb (rowAt p .entries) VARIABLE || eqb (rowAt p .entries) MAP) || ltb (p + rowAt p .entries) ROWS) place refl h)
+
 -- only the first rows can be written
 pub writable-below : (place : ℕ) → place < ROWS → rowAt place .writable ≡ true → place < WRITABLE
 unfolding each objects
@@ -76,9 +127,9 @@ below-writable place h = each-at WRITABLE (λ k. rowAt k .writable) place refl h
 
 -- a type's bytes
 abbrev typeSize : ℕ → ℕ
-typeSize kind = cond (kind is I8) 1 (cond (kind is U32) 4 2)
+typeSize kind = cond (kind is I8 || kind is U8) 1 (cond (kind is U32) 4 2)
 
 -- the size of each row is that of its type
-pub size-of-type : (place : ℕ) → place < ROWS → rowAt place .size ≡ typeSize (columnsAt place .2)
+pub size-of-type : (place : ℕ) → place < ROWS → rowAt place .size ≡ typeSize (columnsAt place .3)
 unfolding each objects
-size-of-type place h = eqb-true _ _ (each-at ROWS (λ k. rowAt k .size is typeSize (columnsAt k .2)) place refl h)
+size-of-type place h = eqb-true _ _ (each-at ROWS (λ k. rowAt k .size is typeSize (columnsAt k .3)) place refl h)

@@ -1,4 +1,4 @@
--- The places of the objects in the table: first the stored settings, in tag order (a tag is the place and one),
+-- The places of the values in the table: first the stored settings, in tag order (a tag is the place and one),
 -- then the others that can be written, then those that are read only.
 use Prim.Native.Nat.{ℕ}
 
@@ -53,27 +53,34 @@ B-SIDE = 15
 abbrev pub THRESHOLD : ℕ
 THRESHOLD = 16
 
+-- a map has five: its number of entries, and then the four entries
+abbrev pub RECEIVE-MAP : ℕ
+RECEIVE-MAP = 17
+
+abbrev pub TRANSMIT-MAP : ℕ
+TRANSMIT-MAP = 22
+
 abbrev pub SET-POINT : ℕ
-SET-POINT = 17
+SET-POINT = 27
 
 abbrev pub CONTROL-WORD : ℕ
-CONTROL-WORD = 18
+CONTROL-WORD = 28
 
 abbrev pub STATUS-WORD : ℕ
-STATUS-WORD = 19
+STATUS-WORD = 29
 
 abbrev pub ERROR-CODE : ℕ
-ERROR-CODE = 20
+ERROR-CODE = 30
 
 abbrev pub COMMAND : ℕ
-COMMAND = 21
+COMMAND = 31
 
 -- how many are stored settings, how many can be written, and how many there are
 abbrev pub SETTINGS : ℕ
 SETTINGS = 17
 
 abbrev pub WRITABLE : ℕ
-WRITABLE = 19
+WRITABLE = 29
 
 abbrev pub ROWS : ℕ
-ROWS = 22
+ROWS = 32

@@ -1,4 +1,8 @@
 // The index of each object, for users of the library and for the table.
+pub const RECEIVE_MAP: u16 = 0x1600;
+
+pub const TRANSMIT_MAP: u16 = 0x1A00;
+
 pub const CONTROL_WORD: u16 = 0x6040;
 
 pub const STATUS_WORD: u16 = 0x6041;

@@ -3,7 +3,7 @@ ghost use mathlib.Core.Path.{_≡_};
 ghost use Prim.Native.Nat.{_+_, _-_};
 ghost use Rattle.objects.specs.Table.{columnsAt, rowAt};
 ghost use Rattle.objects.specs.Table as Table;
-ghost use Rattle.objects.specs.Lookup.{placeOf, entryAt};
+ghost use Rattle.objects.specs.Lookup.{placeOf, recordEntry, entryAt};
 ghost use Rattle.objects.specs.Asked.{InTable, InRun};
 
 pub mod index;
@@ -21,13 +21,14 @@ pub const FULL_POSITION: i64 = FULL_STROKE * PARTS;
 
 // ---- the rows
 
-// An object by the names of its columns: the range and the fresh value of its value, its index, what it consists of, and how
+// A value by the names of its columns: its range and its fresh value, its index and sub-index, what the object consists of, and how
 // it may be written.
 pub struct Row {
     pub low: i64,
     pub high: i64,
     pub fresh: i64,
     pub index: u16,
+    pub sub: u8,
     pub entries: u8,
     pub size: u8,
     pub lock: u8,
@@ -36,8 +37,8 @@ pub struct Row {
     pub choice: bool,
 }
 
-// The places of the objects: the stored settings first, in tag order (a tag is the place and one), then the others that can be
-// written, then those that are read only.
+// The places of the values: the stored settings first, in tag order (a tag is the place and one), then the others that can be
+// written, then those that are read only. A map has five, its number of entries and then the four entries.
 pub const HOLD_SET_POINT: usize = 0;
 
 pub const UPPER_LIMIT: usize = 1;
@@ -72,26 +73,31 @@ pub const B_SIDE: usize = 15;
 
 pub const THRESHOLD: usize = 16;
 
-pub const SET_POINT: usize = 17;
+pub const RECEIVE_MAP: usize = 17;
 
-pub const CONTROL_WORD: usize = 18;
+pub const TRANSMIT_MAP: usize = 22;
 
-pub const STATUS_WORD: usize = 19;
+pub const SET_POINT: usize = 27;
 
-pub const ERROR_CODE: usize = 20;
+pub const CONTROL_WORD: usize = 28;
 
-pub const COMMAND: usize = 21;
+pub const STATUS_WORD: usize = 29;
+
+pub const ERROR_CODE: usize = 30;
+
+pub const COMMAND: usize = 31;
 
 // How many are stored settings, how many can be written, and how many there are.
 pub const SETTINGS: usize = 17;
 
-pub const WRITABLE: usize = 19;
+pub const WRITABLE: usize = 29;
 
-pub const ROWS: usize = 22;
+pub const ROWS: usize = 32;
 
-// A row as the table prints it: index, entries, type, size, access, low, high, fresh value, lock.
+// A row as the table prints it: index, sub-index, entries, type, size, access, low, high, fresh value, lock.
 pub struct Columns(
     pub u16,
+    pub u8,
     pub u8,
     pub u8,
     pub u8,
@@ -102,12 +108,14 @@ pub struct Columns(
     pub u8,
 );
 
-// The entries: a variable has none, a record one, a time three.
+// The entries: a variable has none, a record one, a time three, a map four.
 const VARIABLE: u8 = 0;
 
 const RECORD: u8 = 1;
 
 const TIME: u8 = 3;
+
+const MAP: u8 = 4;
 
 // The types.
 const I8: u8 = 0;
@@ -117,6 +125,8 @@ const I16: u8 = 1;
 const U16: u8 = 2;
 
 const U32: u8 = 3;
+
+const U8: u8 = 4;
 
 // The access: read only, or read and written.
 const RO: u8 = 0;
@@ -129,28 +139,38 @@ pub const FREE: u8 = 0;
 pub const WHILE_ACTIVE: u8 = 1;
 
 const OBJECTS: [Columns; ROWS] = [
-    Columns(0x6314, RECORD, I16, 2, RW, -32768, 32767, 0, FREE), // hold set point
-    Columns(0x6320, RECORD, I16, 2, RW, -32768, 32767, 16384, FREE), // upper limit
-    Columns(0x6321, RECORD, I16, 2, RW, -32768, 32767, -16384, FREE), // lower limit
-    Columns(0x6322, VARIABLE, U32, 4, RW, 0, 4294967295, 65536, FREE), // scaling factor
-    Columns(0x6323, RECORD, I16, 2, RW, -32768, 32767, 0, FREE), // scaling offset
-    Columns(0x6324, RECORD, I16, 2, RW, -32768, 32767, 0, FREE), // zero correction
-    Columns(0x6330, VARIABLE, I8, 1, RW, 0, 3, 0, WHILE_ACTIVE), // ramp type
-    Columns(0x6331, TIME, U32, 4, RW, 0, 3600000, 0, WHILE_ACTIVE), // acceleration time: one
-    Columns(0x6332, TIME, U32, 4, RW, 0, 3600000, 0, WHILE_ACTIVE), // positive
-    Columns(0x6333, TIME, U32, 4, RW, 0, 3600000, 0, WHILE_ACTIVE), // negative
-    Columns(0x6334, TIME, U32, 4, RW, 0, 3600000, 0, WHILE_ACTIVE), // deceleration time: one
-    Columns(0x6335, TIME, U32, 4, RW, 0, 3600000, 0, WHILE_ACTIVE), // positive
-    Columns(0x6336, TIME, U32, 4, RW, 0, 3600000, 0, WHILE_ACTIVE), // negative
-    Columns(0x6342, VARIABLE, I8, 1, RW, 0, 1, 0, WHILE_ACTIVE), // dead band type
-    Columns(0x6343, RECORD, I16, 2, RW, 0, 4096, 0, WHILE_ACTIVE), // dead band A side
-    Columns(0x6344, RECORD, I16, 2, RW, 0, 4096, 0, WHILE_ACTIVE), // dead band B side
-    Columns(0x6345, RECORD, I16, 2, RW, 0, 16384, 0, WHILE_ACTIVE), // dead band threshold
-    Columns(0x6300, RECORD, I16, 2, RW, -32768, 32767, 0, FREE), // set point
-    Columns(0x6040, VARIABLE, U16, 2, RW, 0, 65535, 0, FREE), // control word
-    Columns(0x6041, VARIABLE, U16, 2, RO, 0, 65535, 0, FREE), // status word
-    Columns(0x604E, VARIABLE, U16, 2, RO, 0, 65535, 0, FREE), // error code
-    Columns(0x6310, RECORD, I16, 2, RO, -32768, 32767, 0, FREE), // command
+    Columns(0x6314, 1, RECORD, I16, 2, RW, -32768, 32767, 0, FREE), // hold set point
+    Columns(0x6320, 1, RECORD, I16, 2, RW, -32768, 32767, 16384, FREE), // upper limit
+    Columns(0x6321, 1, RECORD, I16, 2, RW, -32768, 32767, -16384, FREE), // lower limit
+    Columns(0x6322, 0, VARIABLE, U32, 4, RW, 0, 4294967295, 65536, FREE), // scaling factor
+    Columns(0x6323, 1, RECORD, I16, 2, RW, -32768, 32767, 0, FREE), // scaling offset
+    Columns(0x6324, 1, RECORD, I16, 2, RW, -32768, 32767, 0, FREE), // zero correction
+    Columns(0x6330, 0, VARIABLE, I8, 1, RW, 0, 3, 0, WHILE_ACTIVE), // ramp type
+    Columns(0x6331, 1, TIME, U32, 4, RW, 0, 3600000, 0, WHILE_ACTIVE), // acceleration time: one
+    Columns(0x6332, 1, TIME, U32, 4, RW, 0, 3600000, 0, WHILE_ACTIVE), // positive
+    Columns(0x6333, 1, TIME, U32, 4, RW, 0, 3600000, 0, WHILE_ACTIVE), // negative
+    Columns(0x6334, 1, TIME, U32, 4, RW, 0, 3600000, 0, WHILE_ACTIVE), // deceleration time: one
+    Columns(0x6335, 1, TIME, U32, 4, RW, 0, 3600000, 0, WHILE_ACTIVE), // positive
+    Columns(0x6336, 1, TIME, U32, 4, RW, 0, 3600000, 0, WHILE_ACTIVE), // negative
+    Columns(0x6342, 0, VARIABLE, I8, 1, RW, 0, 1, 0, WHILE_ACTIVE), // dead band type
+    Columns(0x6343, 1, RECORD, I16, 2, RW, 0, 4096, 0, WHILE_ACTIVE), // dead band A side
+    Columns(0x6344, 1, RECORD, I16, 2, RW, 0, 4096, 0, WHILE_ACTIVE), // dead band B side
+    Columns(0x6345, 1, RECORD, I16, 2, RW, 0, 16384, 0, WHILE_ACTIVE), // dead band threshold
+    Columns(0x1600, 0, MAP, U8, 1, RW, 0, 255, 0, FREE), // receive map: number of entries
+    Columns(0x1600, 1, MAP, U32, 4, RW, 0, 4294967295, 0, FREE), // entry 1
+    Columns(0x1600, 2, MAP, U32, 4, RW, 0, 4294967295, 0, FREE), // entry 2
+    Columns(0x1600, 3, MAP, U32, 4, RW, 0, 4294967295, 0, FREE), // entry 3
+    Columns(0x1600, 4, MAP, U32, 4, RW, 0, 4294967295, 0, FREE), // entry 4
+    Columns(0x1A00, 0, MAP, U8, 1, RW, 0, 255, 0, FREE), // transmit map: number of entries
+    Columns(0x1A00, 1, MAP, U32, 4, RW, 0, 4294967295, 0, FREE), // entry 1
+    Columns(0x1A00, 2, MAP, U32, 4, RW, 0, 4294967295, 0, FREE), // entry 2
+    Columns(0x1A00, 3, MAP, U32, 4, RW, 0, 4294967295, 0, FREE), // entry 3
+    Columns(0x1A00, 4, MAP, U32, 4, RW, 0, 4294967295, 0, FREE), // entry 4
+    Columns(0x6300, 1, RECORD, I16, 2, RW, -32768, 32767, 0, FREE), // set point
+    Columns(0x6040, 0, VARIABLE, U16, 2, RW, 0, 65535, 0, FREE), // control word
+    Columns(0x6041, 0, VARIABLE, U16, 2, RO, 0, 65535, 0, FREE), // status word
+    Columns(0x604E, 0, VARIABLE, U16, 2, RO, 0, 65535, 0, FREE), // error code
+    Columns(0x6310, 1, RECORD, I16, 2, RO, -32768, 32767, 0, FREE), // command
 ];
 
 // The columns at a place. Only this function reads the table: an arm for each row, since a place that is not known beforehand would
@@ -182,7 +202,17 @@ fn columns_at(place: usize) -> Columns
         18 => table[18],
         19 => table[19],
         20 => table[20],
-        _ => table[21],
+        21 => table[21],
+        22 => table[22],
+        23 => table[23],
+        24 => table[24],
+        25 => table[25],
+        26 => table[26],
+        27 => table[27],
+        28 => table[28],
+        29 => table[29],
+        30 => table[30],
+        _ => table[31],
     }
 }
 
@@ -206,20 +236,21 @@ pub fn row_at(place: usize) -> Row
 {
     let columns = columns_at(place);
     Row {
-        low: columns.5,
-        high: columns.6,
-        fresh: columns.7,
+        low: columns.6,
+        high: columns.7,
+        fresh: columns.8,
         index: columns.0,
-        entries: columns.1,
-        size: columns.3,
-        lock: columns.8,
-        signed: is_signed(columns.2),
-        writable: columns.4 == RW,
+        sub: columns.1,
+        entries: columns.2,
+        size: columns.4,
+        lock: columns.9,
+        signed: is_signed(columns.3),
+        writable: columns.5 == RW,
         choice: is_choice(place),
     }
 }
 
-// The index of the object at a place, by their names.
+// The index of the object at a place, by their names; a map has five places.
 pub fn index_of(place: usize) -> u16
     requires { ⌜ InTable place ⌝ }
     ensures { λ r. ⌜ r ≡ rowAt place .index ⌝ }
@@ -242,6 +273,8 @@ pub fn index_of(place: usize) -> u16
         A_SIDE => index::A_SIDE,
         B_SIDE => index::B_SIDE,
         THRESHOLD => index::THRESHOLD,
+        17..=21 => index::RECEIVE_MAP,
+        22..=26 => index::TRANSMIT_MAP,
         SET_POINT => index::SET_POINT,
         CONTROL_WORD => index::CONTROL_WORD,
         STATUS_WORD => index::STATUS_WORD,
@@ -252,7 +285,7 @@ pub fn index_of(place: usize) -> u16
 
 // ---- from an index and a sub-index to a row and an entry
 
-// Where an index stands in the table.
+// Where an index stands in the table: its first row.
 pub enum Place {
     At(usize),
     Nowhere,
@@ -271,6 +304,8 @@ pub fn place_of(index: u16) -> Place
     ensures { λ r. ⌜ r ≡ placeOf index ⌝ }
 {
     match index {
+        0x1600 => Place::At(RECEIVE_MAP),
+        0x1A00 => Place::At(TRANSMIT_MAP),
         0x6040..=0x6041 => in_run(CONTROL_WORD, 0x6040, index),
         0x604E => Place::At(ERROR_CODE),
         0x6300 => Place::At(SET_POINT),
@@ -283,9 +318,9 @@ pub fn place_of(index: u16) -> Place
     }
 }
 
-// What stands at a sub-index: the object's value, a byte that never changes, or nothing.
+// What stands at a sub-index: the value so many rows after the object's first, a byte that never changes, or nothing.
 pub enum Entry {
-    Value,
+    Value(u8),
     Fixed(u8),
     Missing,
 }
@@ -295,24 +330,27 @@ const SECONDS: u8 = 0x03;
 
 const MILLI: u8 = 0xFD;
 
-// A variable has sub-index 0 only. A record has its number of entries at 0 and its value at 1; a time has its unit at 2 and its
-// prefix at 3.
+// A record has its number of entries at 0 and its value at 1; a time has its unit at 2 and its prefix at 3.
+fn record_entry(entries: u8, sub: u8) -> Entry
+    ensures { λ r. ⌜ r ≡ recordEntry entries sub ⌝ }
+{
+    match sub {
+        0 => Entry::Fixed(entries),
+        1 => Entry::Value(0),
+        2 => Entry::Fixed(SECONDS),
+        _ => Entry::Fixed(MILLI),
+    }
+}
+
+// A sub-index beyond the entries is missing. A variable's only one is its value, and each of a map's is one.
 pub fn entry_at(entries: u8, sub: u8) -> Entry
     ensures { λ r. ⌜ r ≡ entryAt entries sub ⌝ }
 {
-    if entries == VARIABLE {
-        return match sub {
-            0 => Entry::Value,
-            _ => Entry::Missing,
-        };
-    }
     if entries < sub {
         return Entry::Missing;
     }
-    match sub {
-        0 => Entry::Fixed(entries),
-        1 => Entry::Value,
-        2 => Entry::Fixed(SECONDS),
-        _ => Entry::Fixed(MILLI),
+    match entries {
+        VARIABLE | MAP => Entry::Value(sub),
+        _ => record_entry(entries, sub),
     }
 }

@@ -1,20 +1,20 @@
 -- Demand 1: each answer goes through its tests in the paper's order, so that its number is that of the first that holds; a refusal is handed back beside the given device, and its room is the one that was lent.
-use mathlib.Core.Bool.{Bool, true, false, not}
+use mathlib.Core.Bool.{false, not}
 use mathlib.Core.List.{List, [], _∷_, _++_}
 use mathlib.Core.Logic.{_≢_}
-use mathlib.Core.Path.{_≡_, refl, sym, ap, _∙_}
-use Prim.Native.Nat.{ℕ, _≤_}
+use mathlib.Core.Path.{_≡_, refl}
+use Prim.Native.Nat.{ℕ}
 use native.Mathlib.Omega.{arith}
-use borrow.Author.Tests.{ltb-false, not-true, not-false}
 use lib.Dec.{eqb, ltb}
 use lib.IntN.{ℤ}
 use lib.ListN.{length, drop}
 use lib.Seq.{drop-at}
 use Rattle.integers.proofs.Cases.{by-cases, by-test, apart}
-use Rattle.coding.specs.Bytes.{byteAt, fourBytes}
+use Rattle.coding.specs.Bytes.{byteAt}
 use Rattle.block.specs.Sound.{soundSettings}
 use Rattle.device.specs.States.{DISABLED}
-use Rattle.device.specs.Sound.{soundDevice}
+use Rattle.mapping.specs.Maps.{counted, lengthOf, mapLength}
+use Rattle.device.specs.Sound.{soundDevice, Sound}
 use Rattle.device.specs.declared.Device.{Device}
 use Rattle.dictionary.specs.declared.Decision.{Decision}
 use Rattle.dictionary.specs.declared.Decision.the-variants.{Read as Reading, Write, Abort as Aborting}
@@ -31,14 +31,17 @@ use Rattle.sdo.specs.declared.Outcome.the-variants.{Read, Written, Abort, Refus
 use Rattle.sdo.proofs.Frames.{frame-long}
 use Rattle.sdo.specs.declared.Request.{Request}
 use Rattle.rainsheave.specs.Calls.{change, changed, isClientAbort, sdoAnswer, sdoRoom, controlAnswer, faultAnswer, tickAnswer, jumpAnswer, queryAnswer}
-use Rattle.rainsheave.specs.Calls.{storeAnswer, roomBy, storeRoom, loadAnswer, numberOfReport}
+use Rattle.pdo.specs.Send.{sent, sentIn}
+use Rattle.pdo.proofs.Laws.{sent-length}
+use Rattle.rainsheave.specs.Calls.{receiveAnswer, sendAnswer, sendRoomBy, sendRoom, storeAnswer, roomBy, storeRoom, loadAnswer, numberOfReport}
 use Rattle.rainsheave.specs.declared.Report.{Report}
 use Rattle.rainsheave.specs.declared.Report.the-variants.{Done, Refused}
 use Rattle.rainsheave.specs.declared.Change.{Change}
 use Rattle.rainsheave.proofs.Promises.{by-sdo, sdo-unchanged, refused-unchanged}
+use Rattle.rainsheave.proofs.Sound.{receive-length, transmit-length}
 use Rattle.rainsheave.proofs.Images.{by-load}
-use Rattle.promises.specs.Calls.{Call, fresh, sdo, control, fault, tick, jump, query, store, load, search, after, number, lent, left}
-use Rattle.promises.specs.Demand1.{_when_, first, refusals, isCut, isEnded, writes, Demand1}
+use Rattle.promises.specs.Calls.{Call, fresh, sdo, control, fault, tick, jump, query, receive, send, store, load, search, after, number, lent, left}
+use Rattle.promises.specs.Demand1.{_when_, first, pdoLength, refusals, isCut, isEnded, writes, Demand1}
 
 -- ---- the order of the refusals
 
@@ -76,6 +79,20 @@ store-ordered : (d : Device) (room : List ℕ) → number (store room) d ≡ fir
 unfolding storeAnswer
 store-ordered d room = by-cases (soundDevice d) (λ s. by-cases (ltb (length room) IMAGE-LENGTH) (λ e. rw (s, e)) (λ e. rw (s, e))) (λ s. rw s)
 
+receive-ordered : (d : Device) (pdo : List ℕ) → number (receive pdo) d ≡ first (refusals (receive pdo) d)
+unfolding receiveAnswer
+receive-ordered d pdo =
+    by-cases (soundDevice d)
+    (λ s. let l = receive-length {d = d} (record { sound = s }) in by-cases (ltb (length pdo) (pdoLength (d .maps .receive))) (λ e. rw (s, l, e)) (λ e. rw (s, l, e)))
+    (λ s. rw s)
+
+send-ordered : (d : Device) (room : List ℕ) → number (send room) d ≡ first (refusals (send room) d)
+unfolding sendAnswer
+send-ordered d room =
+    by-cases (soundDevice d)
+    (λ s. let l = transmit-length {d = d} (record { sound = s }) in by-cases (ltb (length room) (pdoLength (d .maps .transmit))) (λ e. rw (s, l, e)) (λ e. rw (s, l, e)))
+    (λ s. rw s)
+
 load-ordered : (d : Device) (image : List ℕ) → number (load image) d ≡ first (refusals (load image) d)
 unfolding loadAnswer
 load-ordered d image =
@@ -99,6 +116,8 @@ ordered (fault code) d = fault-ordered d code
 ordered tick d = changed-ordered d _
 ordered (jump n) d = changed-ordered d _
 ordered (query q) d = query-ordered d _
+ordered (receive pdo) d = receive-ordered d pdo
+ordered (send room) d = send-ordered d room
 ordered (store room) d = store-ordered d room
 ordered (load image) d = load-ordered d image
 ordered (search image tag) d = search-ordered (walk image tag)
@@ -121,6 +140,18 @@ fault-refused : (d : Device) (code : ℕ) → number (fault code) d ≢ 0 → af
 unfolding faultAnswer
 fault-refused d code = refused-unchanged d _ (by-test (λ (c : Change). numberOfReport (c .report) ≢ 0 → c .device ≡ d) (eqb code 0) (λ e h. refl) (λ e h. absurd (h refl)))
 
+pub receive-refused : (d : Device) (pdo : List ℕ) → number (receive pdo) d ≢ 0 → after (receive pdo) d ≡ d
+unfolding receiveAnswer
+receive-refused d pdo = refused-unchanged d _ (by-test (λ (c : Change). numberOfReport (c .report) ≢ 0 → c .device ≡ d) (ltb (length pdo) (mapLength (d .maps .receive))) (λ e h. refl) (λ e h. absurd (h refl)))
+
+send-refused : (d : Device) (room : List ℕ) → number (send room) d ≢ 0 → left (send room) d ≡ room
+unfolding sendRoom
+send-refused d room = by (sendAnswer d (length room) .report)
+  where
+    by : (r : Report) → numberOfReport r ≢ 0 → sendRoomBy r d room ≡ room
+    by Done h = absurd (h refl)
+    by (Refused n) h = refl
+
 store-refused : (d : Device) (room : List ℕ) → number (store room) d ≢ 0 → left (store room) d ≡ room
 unfolding storeRoom
 store-refused d room = by (storeAnswer d (length room))
@@ -141,6 +172,8 @@ refused (fault code) d h = (fault-refused d code h, refl)
 refused tick d h = (changed-refused d _ h, refl)
 refused (jump n) d h = (changed-refused d _ h, refl)
 refused (query q) d h = (refl, refl)
+refused (receive pdo) d h = (receive-refused d pdo h, refl)
+refused (send room) d h = (refl, send-refused d room h)
 refused (store room) d h = (refl, store-refused d room h)
 refused (load image) d h = (load-refused d image h, refl)
 refused (search image tag) d h = (refl, refl)
@@ -158,6 +191,18 @@ reply-later Written q room = frame-later 0x60 (q .index) (q .sub) 0 room
 reply-later (Abort code) q room = frame-later 0x80 (q .index) (q .sub) code room
 reply-later (Refuse n) q room = refl
 
+send-later : (d : Device) (room : List ℕ) → drop (pdoLength (d .maps .transmit)) (sendRoom d room) ≡ drop (pdoLength (d .maps .transmit)) room
+unfolding sendRoom sendAnswer sentIn
+send-later d room =
+    by-cases (soundDevice d)
+    (λ s.
+    let t : Sound d = record { sound = s } in
+    let l = transmit-length t in
+    let long : lengthOf (counted (d .maps .transmit)) ≡ pdoLength (d .maps .transmit) = unfold mapLength in l in
+    by-cases (ltb (length room) (pdoLength (d .maps .transmit))) (λ e. rw (s, l, e))
+    (λ e. rw (s, l, e, long) (drop-at (sent d (counted (d .maps .transmit))) _ _ (sent-length t (d .maps .transmit .count) (omega arith)))))
+    (λ s. rw s)
+
 store-later : (d : Device) (room : List ℕ) → drop IMAGE-LENGTH (storeRoom d room) ≡ drop IMAGE-LENGTH room
 unfolding storeRoom storedIn
 store-later d room = by (storeAnswer d (length room))
@@ -166,7 +211,7 @@ store-later d room = by (storeAnswer d (length room))
     by Done = drop-at (imageOf (d .block .settings)) _ IMAGE-LENGTH (image-length (d .block .settings))
     by (Refused n) = refl
 
-later : (c : Call) (d : Device) → drop (writes c) (left c d) ≡ drop (writes c) (lent c)
+later : (c : Call) (d : Device) → drop (writes c d) (left c d) ≡ drop (writes c d) (lent c)
 later fresh d = refl
 later (sdo request room) d = unfold sdoRoom in reply-later _ (requestOf request) room
 later (control word) d = refl
@@ -174,6 +219,8 @@ later (fault code) d = refl
 later tick d = refl
 later (jump n) d = refl
 later (query q) d = refl
+later (receive pdo) d = refl
+later (send room) d = send-later d room
 later (store room) d = store-later d room
 later (load image) d = refl
 later (search image tag) d = refl

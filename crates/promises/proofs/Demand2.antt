@@ -14,7 +14,7 @@ use Rattle.integers.proofs.Cases.{by-cases, by-less, clash}
 use Rattle.integers.proofs.Each.{each-at}
 use Rattle.objects.specs.Places.{SETTINGS, WRITABLE, ROWS, CONTROL-WORD, STATUS-WORD, ERROR-CODE, COMMAND}
 use Rattle.objects.specs.Table.{WHILE-ACTIVE, objects, rowAt}
-use Rattle.objects.specs.Lookup.{placeFrom, placeOf, entryAt}
+use Rattle.objects.specs.Lookup.{placeFrom, placeOf, recordEntry, entryAt}
 use Rattle.objects.proofs.Rules.{below-writable}
 use Rattle.coding.specs.Bytes.{fourOf, fourBytes}
 use Rattle.coding.specs.Coding.{span, valueOf, numberOf}
@@ -85,6 +85,7 @@ module _ {d : Device} {place : ℕ} {x : ℤ} {b : Data} (a : Allowed d place x 
         range = a .range;
         uncrossed = a .uncrossed;
         unlocked = rw (lock place in-table) (a .unlocked);
+        unruled = a .unruled;
       }
 
   -- the data bytes stand for the value
@@ -126,11 +127,11 @@ read-served : (d : Device) (index sub : ℕ) (b : Data) → served d (request 0x
 unfolding served decisionOn asksOf
 read-served d index sub b = refl
 
-read-replied : {d : Device} → Sound d → (index sub : ℕ) (b : Data) (r : List ℕ) → FRAME ≤ length r → sdoRoom d (reading index sub b) r ≡ repliedIn (outcomeOf (readDecision d index sub)) (request 0x40 index sub b) r
+pub read-replied : {d : Device} → Sound d → (index sub : ℕ) (b : Data) (r : List ℕ) → FRAME ≤ length r → sdoRoom d (reading index sub b) r ≡ repliedIn (outcomeOf (readDecision d index sub)) (request 0x40 index sub b) r
 read-replied {d} s index sub b r h = frame-replied s 0x40 index sub b r refl h ∙ rw (read-served d index sub b)
 
 -- two sound devices of which a read is decided alike answer it alike, also in too little room
-read-alike : {d e : Device} → Sound d → Sound e → (index sub : ℕ) (b : Data) → readDecision d index sub ≡ readDecision e index sub → (r : List ℕ) → sdoRoom d (reading index sub b) r ≡ sdoRoom e (reading index sub b) r
+pub read-alike : {d e : Device} → Sound d → Sound e → (index sub : ℕ) (b : Data) → readDecision d index sub ≡ readDecision e index sub → (r : List ℕ) → sdoRoom d (reading index sub b) r ≡ sdoRoom e (reading index sub b) r
 unfolding sdoRoom sdoAnswer
 read-alike {d} {e} s t index sub b same r =
     by-cases (ltb (length r) FRAME)
@@ -229,7 +230,7 @@ unfolding repliedIn readDecision readOf readReply frameOf
 fixed-read s index sub n b r h e = read-replied s index sub b r h ∙ rw e
 
 unit : (d : Device) (index : ℕ) (b : Data) (r : List ℕ) → Sound d → 8 ≤ length r → 0x6331 ≤ index → index ≤ 0x6336 → (sdoRoom d (reading index 2 b) r ≡ frame 0x4F index 2 (0x03 ∷ 0 ∷ 0 ∷ 0 ∷ []) ++ drop 8 r) × (sdoRoom d (reading index 3 b) r ≡ frame 0x4F index 3 (0xFD ∷ 0 ∷ 0 ∷ 0 ∷ []) ++ drop 8 r)
-unfolding each objects named placeOf placeFrom entryAt fourBytes
+unfolding each objects named placeOf placeFrom entryAt recordEntry fourBytes
 unit d index b r s h k l =
     let e : 0x6331 + (index - 0x6331) ≡ index = omega arith in (
       fixed-read s index 2 0x03 b r h (rw e at (of-a-time 2 0x03 (index - 0x6331) refl (omega arith))),

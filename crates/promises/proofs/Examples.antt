@@ -2,9 +2,9 @@
 use mathlib.Core.Path.{refl}
 use Rattle.integers.specs.Words.{each}
 use Rattle.objects.specs.Table.{objects, isSigned}
-use Rattle.objects.specs.Lookup.{placeFrom, placeOf, entryAt}
+use Rattle.objects.specs.Lookup.{placeFrom, placeOf, recordEntry, entryAt}
 use Rattle.coding.specs.Bytes.{fourBytes}
-use Rattle.coding.specs.Coding.{span, inSpan, valueOf}
+use Rattle.coding.specs.Coding.{span, inSpan, valueOf, numberOf}
 use Rattle.ramp.specs.Ramp.{awayTime, backTime, stepOf, opposite, decelerates, distance, toward, moved, halts, stop, stride, tickOf, roundedUp, ticksToZero, ticksToGo}
 use Rattle.block.specs.Block.{freshBlock}
 use Rattle.block.specs.Command.{wholeOf, banded, bandedBy, commandOf}
@@ -13,20 +13,26 @@ use Rattle.block.specs.Target.{inputOf, clampTo, clampToStroke, scaledBy, targe
 use Rattle.block.specs.Travel.{tickBlock, ticksToGoOf}
 use Rattle.device.specs.Device.{freshDevice}
 use Rattle.device.specs.Events.{blockIn, errorIn, entering, controlled, reported, faulted, tickDevice}
-use Rattle.device.specs.Queries.{deviceTarget, deviceCommand, deviceTicksToGo}
+use Rattle.device.specs.Queries.{targetMet, statusOf, deviceTarget, deviceCommand, deviceTicksToGo}
+use Rattle.mapping.specs.Maps.{withAt, mapLength, freshMap, freshMaps}
+use Rattle.mapping.specs.Rules.{eachMapped, isRight, rulingOn}
+use Rattle.mapping.specs.Sound.{mayStand, soundMap, soundMaps}
 use Rattle.device.specs.Sound.{isState, errorFits, rests, soundDevice}
 use Rattle.device.specs.States.{fromDisabled, fromHold, fromActive, fromFault, nextState, driven}
-use Rattle.dictionary.specs.Decide.{crosses, isLocked, verdictOn, writeOf, writeDecision}
+use Rattle.dictionary.specs.Decide.{crosses, isLocked, mapRuling, verdictOn, readOf, readDecision, writeOf, writeDecision}
 use Rattle.dictionary.specs.Named.{named}
-use Rattle.dictionary.specs.Values.{writtenTo}
+use Rattle.dictionary.specs.Values.{valueAt, writtenTo}
 use Rattle.sdo.specs.Frames.{asksOf, frameOf, repliedIn}
 use Rattle.sdo.specs.Serve.{decisionOn, served}
+use Rattle.pdo.specs.Receive.{acted, received}
+use Rattle.pdo.specs.Send.{sentBy, sent, sentIn}
+use Rattle.rainsheave.specs.Calls.{receiveAnswer, sendAnswer, sendRoom}
 use Rattle.rainsheave.specs.Calls.{tickAnswer, queryAnswer, sdoAnswer, sdoRoom, controlAnswer, faultAnswer}
 use Rattle.promises.specs.History.{afterAll, altersNothing}
 use Rattle.promises.specs.Examples.{Examples, Witnesses}
 
 pub examples : Examples
-unfolding each objects isSigned placeFrom placeOf entryAt fourBytes span inSpan valueOf awayTime backTime stepOf opposite decelerates distance toward moved halts stop stride tickOf roundedUp ticksToZero ticksToGo freshBlock wholeOf banded bandedBy commandOf liesIn soundSettings soundBlock inputOf clampTo clampToStroke scaledBy targetFrom targetOf targetPosition tickBlock ticksToGoOf freshDevice blockIn errorIn entering controlled reported faulted tickDevice deviceTarget deviceCommand deviceTicksToGo isState errorFits rests soundDevice fromDisabled fromHold fromFault nextState driven crosses isLocked verdictOn writeOf writeDecision named writtenTo asksOf frameOf repliedIn decisionOn served tickAnswer queryAnswer sdoAnswer sdoRoom controlAnswer faultAnswer afterAll
+unfolding each objects isSigned placeFrom placeOf recordEntry entryAt fourBytes span inSpan valueOf awayTime backTime stepOf opposite decelerates distance toward moved halts stop stride tickOf roundedUp ticksToZero ticksToGo freshBlock wholeOf banded bandedBy commandOf liesIn soundSettings soundBlock inputOf clampTo clampToStroke scaledBy targetFrom targetOf targetPosition tickBlock ticksToGoOf freshDevice blockIn errorIn entering controlled reported faulted tickDevice deviceTarget deviceCommand deviceTicksToGo isState errorFits rests soundDevice freshMap freshMaps mayStand soundMap soundMaps fromDisabled fromHold fromFault nextState driven crosses isLocked mapRuling verdictOn writeOf writeDecision named writtenTo asksOf frameOf repliedIn decisionOn served tickAnswer queryAnswer sdoAnswer sdoRoom controlAnswer faultAnswer afterAll
 examples =
     record {
       limits = refl;
@@ -51,5 +57,14 @@ examples =
     }
 
 pub witnesses : Witnesses
-unfolding each objects isSigned placeFrom placeOf entryAt fourBytes span inSpan valueOf awayTime backTime stepOf opposite decelerates distance toward moved halts stop stride tickOf roundedUp ticksToZero ticksToGo freshBlock wholeOf banded bandedBy commandOf liesIn soundSettings soundBlock inputOf clampTo clampToStroke scaledBy targetFrom targetOf targetPosition tickBlock ticksToGoOf freshDevice blockIn errorIn entering controlled reported faulted tickDevice deviceTarget deviceCommand deviceTicksToGo isState errorFits rests soundDevice fromDisabled fromHold fromFault nextState driven crosses isLocked verdictOn writeOf writeDecision named writtenTo asksOf frameOf repliedIn decisionOn served tickAnswer queryAnswer sdoAnswer sdoRoom controlAnswer faultAnswer afterAll fromActive altersNothing
-witnesses = record { longest = refl; leaves = (refl, refl); returns = (refl, refl); factor-counts = refl }
+unfolding each objects isSigned placeFrom placeOf recordEntry entryAt fourBytes span inSpan valueOf awayTime backTime stepOf opposite decelerates distance toward moved halts stop stride tickOf roundedUp ticksToZero ticksToGo freshBlock wholeOf banded bandedBy commandOf liesIn soundSettings soundBlock inputOf clampTo clampToStroke scaledBy targetFrom targetOf targetPosition tickBlock ticksToGoOf freshDevice blockIn errorIn entering controlled reported faulted tickDevice deviceTarget deviceCommand deviceTicksToGo isState errorFits rests soundDevice freshMap freshMaps mayStand soundMap soundMaps fromDisabled fromHold fromFault nextState driven crosses isLocked mapRuling verdictOn writeOf writeDecision named writtenTo asksOf frameOf repliedIn decisionOn served tickAnswer queryAnswer sdoAnswer sdoRoom controlAnswer faultAnswer afterAll fromActive altersNothing withAt eachMapped isRight rulingOn mapLength acted received sentBy sent sentIn readOf readDecision numberOf valueAt targetMet statusOf receiveAnswer sendAnswer sendRoom
+witnesses =
+    record {
+      longest = refl;
+      leaves = (refl, refl);
+      returns = (refl, refl);
+      cyclic-active = (refl, refl);
+      in-map-order = refl;
+      told-by-pdo = refl;
+      factor-counts = refl;
+    }

@@ -3,21 +3,23 @@ use mathlib.Core.Bool.{Bool, true, false, not, _&&_}
 use mathlib.Core.List.{List, [], _∷_}
 use mathlib.Core.Logic.{_≢_}
 use mathlib.Core.Path.{_≡_, refl, sym, ap, _∙_}
-use Prim.Native.Nat.{ℕ}
-use borrow.Author.Tests.{eqb-true, not-true, not-false}
-use lib.Dec.{eqb}
+use Prim.Native.Nat.{ℕ, zero, suc, _+_, _≤_}
+use native.Mathlib.Omega.{arith}
+use borrow.Author.Tests.{eqb-true, eqb-false, lt-ltb, not-true, not-false}
+use lib.Dec.{eqb, ltb}
 use Rattle.integers.specs.Words.{_is_}
 use lib.IntN.{natAbs}
-use lib.ListN.{length}
-use Rattle.integers.proofs.Cases.{by-cases, by-test, clash, apart}
-use Rattle.integers.proofs.Each.{and-split}
+use lib.ListN.{length, take}
+use Rattle.integers.proofs.Cases.{by-cases, by-test, by-less, clash, apart}
+use Rattle.integers.proofs.Each.{and-split, each-at}
 use Rattle.objects.specs.Places.{CONTROL-WORD}
 use Rattle.objects.specs.Table.{objects}
 use Rattle.objects.specs.Lookup.{placeFrom, placeOf, entryAt}
+use Rattle.mapping.specs.Maps.{entryOf, mapLength}
 use Rattle.device.specs.Sound.{soundDevice, Sound}
 use Rattle.device.specs.Kept.{SameSettings}
 use Rattle.device.specs.declared.Device.{Device}
-use Rattle.device.proofs.Laws.{fresh-sound}
+use Rattle.device.proofs.Laws.{receive-parts, fresh-sound}
 use Rattle.device.proofs.Kept.{same, then-same, controlled-keeps, faulted-keeps, tick-keeps, jump-keeps, device-target-depends}
 use Rattle.dictionary.specs.Named.{value, named}
 use Rattle.dictionary.specs.Values.{writtenTo}
@@ -27,14 +29,16 @@ use Rattle.sdo.specs.declared.Request.{Request}
 use Rattle.sdo.specs.declared.Outcome.{Outcome}
 use Rattle.sdo.specs.declared.Outcome.the-variants.{Read, Written, Abort, Refused}
 use Rattle.sdo.proofs.Promises.{acknowledged}
-use Rattle.rainsheave.specs.Calls.{changed, sdoAnswer, controlAnswer, faultAnswer, tickAnswer, jumpAnswer}
+use Rattle.pdo.specs.Receive.{received}
+use Rattle.pdo.proofs.Laws.{received-more}
+use Rattle.rainsheave.specs.Calls.{changed, sdoAnswer, controlAnswer, faultAnswer, tickAnswer, jumpAnswer, receiveAnswer}
 use Rattle.rainsheave.specs.declared.Change.{Change}
-use Rattle.rainsheave.proofs.Promises.{by-sdo, sdo-unchanged, sdo-sound, control-sound, fault-sound, tick-sound, jump-sound}
+use Rattle.rainsheave.proofs.Promises.{by-sdo, sdo-unchanged, sdo-sound, control-sound, fault-sound, tick-sound, jump-sound, receive-sound, word-received}
 use Rattle.rainsheave.proofs.Images.{load-sound, load-refused-unchanged}
-use Rattle.promises.specs.Calls.{Call, fresh, sdo, control, fault, tick, jump, query, store, load, search, target, asked, after, number, told}
-use Rattle.promises.specs.History.{afterAll, isWritten, alters, altersNothing, Histories}
+use Rattle.promises.specs.Calls.{Call, fresh, sdo, control, fault, tick, jump, query, receive, send, store, load, search, target, asked, after, number, told}
+use Rattle.promises.specs.History.{afterAll, isWritten, wordsAlone, alters, altersNothing, Histories}
 use Rattle.promises.specs.Demand1.{Refusal, _when_, first, refusals}
-use Rattle.promises.proofs.Demand1.{demand1}
+use Rattle.promises.proofs.Demand1.{receive-refused, demand1}
 use Rattle.promises.proofs.Demand3.{is-told}
 
 -- ---- a sound device stays sound
@@ -47,11 +51,13 @@ call-sound (fault code) s = fault-sound s code
 call-sound tick s = tick-sound s
 call-sound (jump n) s = jump-sound s n
 call-sound (query q) s = s
+call-sound (receive pdo) s = receive-sound s pdo
+call-sound (send room) s = s
 call-sound (store room) s = s
 call-sound (load image) s = load-sound s image
 call-sound (search image tag) s = s
 
-all-sound : (calls : List Call) {d : Device} → Sound d → Sound (afterAll calls d)
+pub all-sound : (calls : List Call) {d : Device} → Sound d → Sound (afterAll calls d)
 unfolding afterAll
 all-sound [] s = s
 all-sound (c ∷ calls) s = all-sound calls (call-sound c s)
@@ -86,6 +92,8 @@ module _ {d : Device} (s : Sound d) where
   refusals-other tick = sound-other (later (refusals tick d)) refl
   refusals-other (jump n) = sound-other (later (refusals (jump n) d)) refl
   refusals-other (query q) = sound-other (later (refusals (query q) d)) refl
+  refusals-other (receive pdo) = sound-other (later (refusals (receive pdo) d)) refl
+  refusals-other (send room) = sound-other (later (refusals (send room) d)) refl
   refusals-other (store room) = sound-other (later (refusals (store room) d)) refl
   refusals-other (load image) = sound-other (later (refusals (load image) d)) refl
   refusals-other (search image tag) = first-other (refusals (search image tag) d) refl
@@ -98,7 +106,7 @@ module _ {d : Device} (s : Sound d) where
 -- 6040h names the control word alone
 names-control : (sub place : ℕ) → named 0x6040 sub ≡ value place → place ≡ CONTROL-WORD
 unfolding named placeOf placeFrom entryAt objects
-names-control sub place e = by-cases (eqb sub 0) (λ z. let f = rw z at e in (cc)) (λ z. let f = rw z at e in apart (cc))
+names-control sub place e = by-less 0 sub (λ l. let f = rw (lt-ltb 0 sub l) at e in apart (cc)) (λ l. let z : sub ≡ 0 = omega arith in let f = rw z at e in (cc))
 
 is-written : (o : Outcome) → isWritten o ≡ true → o ≡ Written
 is-written (Read size n) e = clash e refl
@@ -124,6 +132,28 @@ module _ (d : Device) where
   abbrev Keeps : Change → Type 0
   Keeps c = SameSettings (c .device) d
 
+  -- a PDO of control words alone
+  words-keep : Sound d → (bytes : List ℕ) → wordsAlone (d .maps .receive) ≡ true → (n : ℕ) → n ≤ d .maps .receive .count → SameSettings (received (take n (d .maps .receive .entries)) bytes d) d
+  unfolding received
+  words-keep s bytes w zero h = same
+  words-keep s bytes w (suc n) h =
+      let p = receive-parts s in
+      let m = d .maps .receive in
+      let next : n + 1 ≡ suc n = omega arith in
+      let more = rw next at (received-more (m .entries) n bytes d (omega (arith, p .long, p .few))) in
+      let word : entryOf m n ≡ 0x60400010 = eqb-true _ _ (each-at (m .count) (λ k. entryOf m k is 0x60400010) n w h) in
+      rw (more, word, word-received) (then-same (controlled-keeps _ _) (words-keep s bytes w n (omega arith)))
+
+  receive-keeps : (pdo : List ℕ) → alters (receive pdo) d ≡ false → SameSettings (after (receive pdo) d) d
+  unfolding receiveAnswer
+  receive-keeps pdo h =
+      by-cases (number (receive pdo) d is 0)
+      (λ z. let words : wordsAlone (d .maps .receive) ≡ true = not-false _ (rw z at h) in
+      by-test Keeps (soundDevice d)
+      (λ s. by-test Keeps (ltb (length pdo) (mapLength (d .maps .receive))) (λ e. same) (λ e. words-keep (record { sound = s }) pdo words (d .maps .receive .count) (omega arith)))
+      (λ s. same))
+      (λ z. rw (receive-refused d pdo (eqb-false _ _ z)) same)
+
   changed-keeps : (c : Change) → Keeps c → Keeps (changed d c)
   changed-keeps c h = by-test Keeps (soundDevice d) (λ e. h) (λ e. same)
 
@@ -136,6 +166,8 @@ module _ (d : Device) where
   call-keeps tick h = changed-keeps _ (tick-keeps d)
   call-keeps (jump n) h = changed-keeps _ (jump-keeps n d)
   call-keeps (query q) h = same
+  call-keeps (receive pdo) h = receive-keeps pdo h
+  call-keeps (send room) h = same
   call-keeps (store room) h = same
   call-keeps (load image) h = rw (load-refused-unchanged d image (λ f. clash (rw f) h)) same
   call-keeps (search image tag) h = same

@@ -7,4 +7,6 @@ pub mod Demand2
 pub mod Demand3
 pub mod WriteLength
 pub mod History
+pub mod MapWrites
+pub mod ProcessData
 pub mod Examples

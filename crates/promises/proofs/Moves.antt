@@ -1,17 +1,16 @@
 -- A control word moves by its bits 0 to 3 and by bit 3 of the word stored before, which are those of the remainders by 16. So the paper's moves are a test that is computed over the states and the remainders.
-use mathlib.Core.Bool.{Bool, true, false, _||_}
-use mathlib.Core.Path.{_≡_, refl, sym, ap, _∙_}
+use mathlib.Core.Bool.{true, _||_}
+use mathlib.Core.Path.{_≡_, refl, sym, _∙_}
 use Prim.Native.Nat.{ℕ, _%_, _/_, _≤_, _<_}
 use native.Mathlib.Omega.{arith}
 use borrow.Author.Tests.{eqb-true, ne-eqb}
 use lib.Dec.{eqb}
-use lib.IntN.{pos}
 use Rattle.integers.specs.Words.{each, if_then_else_, _is_}
-use Rattle.integers.proofs.Cases.{by-cases, clash}
+use Rattle.integers.proofs.Cases.{by-cases}
 use Rattle.integers.proofs.Each.{each-at}
 use Rattle.device.specs.States.{bit, fromDisabled, fromHold, fromActive, fromFault, nextState, driven}
 use Rattle.device.specs.Events.{blockIn, errorIn, entering, controlled, reported, faulted}
-use Rattle.device.specs.Sound.{isState, soundDevice, Sound}
+use Rattle.device.specs.Sound.{isState, Sound}
 use Rattle.device.specs.declared.Device.{Device}
 use Rattle.device.proofs.Laws.{device-parts}
 use Rattle.rainsheave.specs.Calls.{controlAnswer, faultAnswer}
@@ -79,8 +78,8 @@ entered : (d : Device) (state : ℕ) → Entered d (entering state d) state
 unfolding entering blockIn driven
 entered d state =
     by-cases (state is 1 || state is 2)
-    (λ e. record { state = refl; position = rw e; setpoint = rw e; settings = rw e })
-    (λ e. record { state = refl; position = rw e; setpoint = rw e; settings = rw e })
+    (λ e. record { state = refl; position = rw e; setpoint = rw e; settings = rw e; maps = refl })
+    (λ e. record { state = refl; position = rw e; setpoint = rw e; settings = rw e; maps = refl })
 
 module _ {d : Device} (s : Sound d) (word : ℕ) where
   controls : controlAnswer d word .device ≡ controlled word d
@@ -91,7 +90,7 @@ module _ {d : Device} (s : Sound d) (word : ℕ) where
   unfolding controlled
   moved =
       let e = entered d (nextState (d .state) (d .control) word) in
-      rw (controls, ← next-is s word) (record { state = e .state; position = e .position; setpoint = e .setpoint; settings = e .settings })
+      rw (controls, ← next-is s word) (record { state = e .state; position = e .position; setpoint = e .setpoint; settings = e .settings; maps = e .maps })
 
   pub word-stored : after (control word) d .control ≡ word
   unfolding controlled
@@ -110,8 +109,8 @@ module _ {d : Device} (s : Sound d) (code : ℕ) (h : 1 ≤ code) where
   unfolding faulted entering blockIn driven reported
   to-fault =
       by-cases (d .state is 3)
-      (λ e. record { state = rw faults; position = rw faults; setpoint = rw (faults, e); settings = rw (faults, e) })
-      (λ e. record { state = rw faults; position = rw faults; setpoint = rw (faults, e); settings = rw (faults, e) })
+      (λ e. record { state = rw faults; position = rw faults; setpoint = rw (faults, e); settings = rw (faults, e); maps = rw (faults, e) })
+      (λ e. record { state = rw faults; position = rw faults; setpoint = rw (faults, e); settings = rw (faults, e); maps = rw (faults, e) })
 
   pub first-code : after (fault code) d .error ≡ (if d .state is 3 then d .error else code)
   unfolding faulted entering errorIn reported

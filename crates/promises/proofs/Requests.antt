@@ -1,24 +1,20 @@
--- Requests by bytes: what a sound device with room enough answers to them, and what their index and sub-index name, by a test that is computed over the rows.
-use mathlib.Core.Bool.{Bool, true, false}
+-- Requests by bytes: what a sound device with room enough answers to them, and what their index and sub-index name.
+use mathlib.Core.Bool.{false}
 use mathlib.Core.List.{List}
 use mathlib.Core.Path.{_≡_, refl, ap, _∙_}
 use Prim.Native.Nat.{ℕ, _%_, _/_, _≤_, _<_}
 use native.Mathlib.Omega.{arith}
 use borrow.Author.Tests.{le-ltb}
 use lib.ListN.{length}
-use Rattle.integers.specs.Words.{each, _is_}
-use Rattle.integers.proofs.Cases.{by-test, clash}
-use Rattle.integers.proofs.Each.{each-at}
+use Rattle.integers.specs.Words.{_is_}
+use Rattle.integers.proofs.Cases.{by-test}
 use Rattle.objects.specs.Places.{ROWS}
-use Rattle.objects.specs.Table.{objects, rowAt}
-use Rattle.objects.specs.Lookup.{entryAt}
-use Rattle.objects.specs.declared.Entry.{Entry}
-use Rattle.objects.specs.declared.Entry.the-variants.{Value, Fixed, Missing}
-use Rattle.objects.proofs.Rules.{each-row-is-found}
+use Rattle.objects.specs.Table.{rowAt}
 use Rattle.coding.specs.Bytes.{byteAt, twoOf, fourOf}
 use Rattle.device.specs.Sound.{Sound}
 use Rattle.device.specs.declared.Device.{Device}
 use Rattle.dictionary.specs.Named.{value, named}
+use Rattle.dictionary.proofs.Laws.{each-row-is-named}
 use Rattle.image.proofs.Lengths.{Sized, one, two, four, sized}
 use Rattle.sdo.specs.Frames.{FRAME, requestOf, asksOf, writeCommand, repliedIn}
 use Rattle.sdo.specs.Serve.{served}
@@ -52,25 +48,8 @@ writes-no-client-abort size = by-test P (size is 1) (λ e. refl) (λ e. by-test 
 
 -- ---- what index and sub-index name
 
-abbrev isValue : Entry → Bool
-isValue Value = true
-isValue (Fixed n) = false
-isValue Missing = false
-
-is-value : (e : Entry) → isValue e ≡ true → e ≡ Value
-is-value Value h = refl
-is-value (Fixed n) h = clash h refl
-is-value Missing h = clash h refl
-
-module _ (place : ℕ) (h : place < ROWS) where
-  entry : entryAt (rowAt place .entries) (valueSub place) ≡ Value
-  unfolding each objects entryAt
-  entry = is-value _ (each-at ROWS (λ k. isValue (entryAt (rowAt k .entries) (valueSub k))) place refl h)
-
-  -- the object's value
-  pub is-named : named (rowAt place .index) (valueSub place) ≡ value place
-  unfolding named
-  is-named = rw (each-row-is-found place h, entry)
+pub is-named : (place : ℕ) → place < ROWS → named (rowAt place .index) (valueSub place) ≡ value place
+is-named place h = each-row-is-named place h
 
 -- ---- answers
 

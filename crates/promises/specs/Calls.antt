@@ -9,7 +9,7 @@ use Rattle.device.specs.declared.Device.{Device}
 use Rattle.image.specs.Walk.{walk, codeOf}
 use Rattle.sdo.specs.Frames.{numberHandedBack}
 use Rattle.rainsheave.specs.Calls.{sdoAnswer, sdoRoom, controlAnswer, faultAnswer, tickAnswer, jumpAnswer, queryAnswer}
-use Rattle.rainsheave.specs.Calls.{storeAnswer, storeRoom, loadAnswer, numberOfReport}
+use Rattle.rainsheave.specs.Calls.{receiveAnswer, sendAnswer, sendRoom, storeAnswer, storeRoom, loadAnswer, numberOfReport}
 use Rattle.rainsheave.specs.declared.Reading.{Reading}
 
 -- what can be asked
@@ -31,6 +31,8 @@ pub data Call : Type 0 where
   tick : Call
   jump : ℕ → Call
   query : Query → Call
+  receive : List ℕ → Call
+  send : List ℕ → Call
   store : List ℕ → Call
   load : List ℕ → Call
   search : List ℕ → ℕ → Call
@@ -53,7 +55,7 @@ asked q d = queryAnswer d (valueOf q d)
 abbrev pub told : ℤ → Reading
 told x = record { value = x; number = 0 }
 
--- the device after a call; an SDO request and a store are handed the room for their bytes
+-- the device after a call; an SDO request, a PDO to be sent and a store are handed the room for their bytes
 abbrev pub after : Call → Device → Device
 after fresh d = freshDevice
 after (sdo request room) d = sdoAnswer d request (length room) .device
@@ -62,6 +64,8 @@ after (fault code) d = faultAnswer d code .device
 after tick d = tickAnswer d .device
 after (jump n) d = jumpAnswer d n .device
 after (query q) d = d
+after (receive pdo) d = receiveAnswer d pdo .device
+after (send room) d = d
 after (store room) d = d
 after (load image) d = loadAnswer d image .device
 after (search image tag) d = d
@@ -75,6 +79,8 @@ number (fault code) d = numberOfReport (faultAnswer d code .report)
 number tick d = numberOfReport (tickAnswer d .report)
 number (jump n) d = numberOfReport (jumpAnswer d n .report)
 number (query q) d = asked q d .number
+number (receive pdo) d = numberOfReport (receiveAnswer d pdo .report)
+number (send room) d = numberOfReport (sendAnswer d (length room) .report)
 number (store room) d = numberOfReport (storeAnswer d (length room))
 number (load image) d = numberOfReport (loadAnswer d image .report)
 number (search image tag) d = codeOf (walk image tag)
@@ -88,6 +94,8 @@ lent (fault code) = []
 lent tick = []
 lent (jump n) = []
 lent (query q) = []
+lent (receive pdo) = []
+lent (send room) = room
 lent (store room) = room
 lent (load image) = []
 lent (search image tag) = []
@@ -100,6 +108,8 @@ left (fault code) d = []
 left tick d = []
 left (jump n) d = []
 left (query q) d = []
+left (receive pdo) d = []
+left (send room) d = sendRoom d room
 left (store room) d = storeRoom d room
 left (load image) d = []
 left (search image tag) d = []

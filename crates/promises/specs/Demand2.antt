@@ -13,12 +13,13 @@ use Rattle.objects.specs.Table.{rowAt, InRange}
 use Rattle.coding.specs.Bytes.{fourBytes}
 use Rattle.coding.specs.Coding.{numberOf}
 use Rattle.block.specs.Block.{setting}
+use Rattle.mapping.specs.declared.Ruling.the-variants as Ruling
 use Rattle.device.specs.States.{DISABLED, ACTIVE}
 use Rattle.device.specs.Demand.{deviceTargetPosition}
 use Rattle.device.specs.Sound.{Sound}
 use Rattle.device.specs.declared.Device.{Device}
 use Rattle.dictionary.specs.Named.{value, named}
-use Rattle.dictionary.specs.Decide.{crosses}
+use Rattle.dictionary.specs.Decide.{crosses, mapRuling}
 use Rattle.image.specs.Fields.{valueBytes}
 use Rattle.image.specs.Walk.{walk, partOf}
 use Rattle.sdo.specs.declared.Outcome.the-variants.{Written}
@@ -50,9 +51,9 @@ writes size = if size is 1 then 0x2F else if size is 2 then 0x2B else if size is
 abbrev pub tells : ℕ → ℕ
 tells size = if size is 1 then 0x4F else if size is 2 then 0x4B else 0x43
 
--- the sub-index of an object's value: 0 of a variable, 1 of a record
+-- the sub-index of a value; `Names` has them in numerals
 abbrev pub valueSub : ℕ → ℕ
-valueSub place = if rowAt place .entries is 0 then 0 else 1
+valueSub place = rowAt place .sub
 
 -- the four bytes of an object's value, low first, unused ones zero
 abbrev pub valueData : ℕ → ℤ → List ℕ
@@ -79,7 +80,7 @@ telling place x = frame (tells (rowAt place .size)) (rowAt place .index) (valueS
 abbrev pub isLockable : ℕ → Bool
 isLockable index = (not (index below 0x6330) && index below 0x6337) || (not (index below 0x6342) && index below 0x6346)
 
--- a write that no rule forbids: an object that can be written, a value in its range that leaves the limits uncrossed, and no lock;
+-- a write that no rule forbids: a value that can be written, in its range, that leaves the limits uncrossed, no lock and no rule of a map;
 -- of the data bytes those that the type has are the value's, and the others whatever they are
 pub record Allowed (d : Device) (place : ℕ) (x : ℤ) (b : Data) : Type 0 where
   pub sound : Sound d
@@ -87,6 +88,7 @@ pub record Allowed (d : Device) (place : ℕ) (x : ℤ) (b : Data) : Type 0 wher
   pub range : InRange place x
   pub uncrossed : crosses d place x ≡ false
   pub unlocked : (isLockable (rowAt place .index) && d .state is ACTIVE) ≡ false
+  pub unruled : mapRuling d place x ≡ Ruling.Accepted
   pub stands : take (rowAt place .size) (list b) ≡ take (rowAt place .size) (valueData place x)
 
 -- the device after it
@@ -131,12 +133,13 @@ movedTo state before word =
     else if word % 8 is 7 then 2
     else 1
 
--- the device e is d in a state: with position 0 but in HOLD and ACTIVE, and all settings
+-- the device e is d in a state: with position 0 but in HOLD and ACTIVE, and all settings and maps
 pub record Entered (d e : Device) (to : ℕ) : Type 0 where
   pub state : e .state ≡ to
   pub position : e .block .position ≡ (if to is 1 || to is 2 then d .block .position else pos 0)
   pub setpoint : e .block .setpoint ≡ d .block .setpoint
   pub settings : e .block .settings ≡ d .block .settings
+  pub maps : e .maps ≡ d .maps
 
 -- ---- the demand
 

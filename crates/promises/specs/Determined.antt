@@ -7,7 +7,8 @@ use Rattle.sdo.specs.declared.Answer.{Answer}
 use Rattle.rainsheave.specs.declared.Report.{Report}
 use Rattle.rainsheave.specs.declared.Change.{Change}
 use Rattle.rainsheave.specs.declared.Reading.{Reading}
-use Rattle.rainsheave.specs.Fixed.{FreshIs, SdoIs, ControlIs, FaultIs, TickIs, JumpIs, StoreIs, LoadIs, FindIs, FindCodeIs}
+use Rattle.rainsheave.specs.declared.Sent.{Sent}
+use Rattle.rainsheave.specs.Fixed.{FreshIs, SdoIs, ControlIs, FaultIs, TickIs, JumpIs, ReceiveIs, SendIs, StoreIs, LoadIs, FindIs, FindCodeIs}
 use Rattle.rainsheave.specs.Fixed.{StateIs, StatusIs, ErrorIs, PositionIs, TargetIs, CommandIs, TicksToGoIs}
 
 pub record Determined : Type 1 where
@@ -26,6 +27,8 @@ pub record Determined : Type 1 where
   pub target : {d : Device} {r s : Reading} → TargetIs d r → TargetIs d s → r ≡ s
   pub command : {d : Device} {r s : Reading} → CommandIs d r → CommandIs d s → r ≡ s
   pub ticks-to-go : {d : Device} {r s : Reading} → TicksToGoIs d r → TicksToGoIs d s → r ≡ s
+  pub receive : {d : Device} {pdo : List ℕ} {r s : Change} → ReceiveIs d pdo r → ReceiveIs d pdo s → r ≡ s
+  pub send : {d : Device} {before after after′ : List ℕ} {r s : Sent} → SendIs d before after r → SendIs d before after′ s → (r ≡ s) × (after ≡ after′)
   pub store : {d : Device} {before after after′ : List ℕ} {r s : Report} → StoreIs d before after r → StoreIs d before after′ s → (r ≡ s) × (after ≡ after′)
   pub load : {d : Device} {image : List ℕ} {r s : Change} → LoadIs d image r → LoadIs d image s → r ≡ s
   -- the same bytes at the same place of the same block of memory: the same part of the caller's slice

@@ -7,7 +7,7 @@ use lib.IntN.{ℤ, pos, negsuc, _*ℤ_}
 use Rattle.integers.specs.Words.{minus}
 use Rattle.device.specs.States.{DISABLED, HOLD, ACTIVE, FAULT}
 use Rattle.rainsheave.specs.declared.Reading.{Reading}
-use Rattle.promises.specs.Calls.{Call, sdo, control, fault, tick, Query, state, position, target, command, ticksToGo, asked, told, left}
+use Rattle.promises.specs.Calls.{Call, sdo, control, fault, tick, receive, send, Query, state, position, target, command, ticksToGo, asked, told, left}
 use Rattle.promises.specs.History.{history, altersNothing}
 
 -- ---- the calls
@@ -40,6 +40,13 @@ time index n = sdo (0x23 ∷ index % 256 ∷ index / 256 ∷ 1 ∷ four n) zeros
 
 abbrev choice : ℕ → ℕ → Call
 choice index n = sdo (0x2F ∷ index % 256 ∷ index / 256 ∷ 0 ∷ n ∷ 0 ∷ 0 ∷ 0 ∷ []) zeros
+
+-- writes to a map: an entry, and how many are counted
+abbrev mapEntry : ℕ → ℕ → ℕ → Call
+mapEntry index sub entry = sdo (0x23 ∷ index % 256 ∷ index / 256 ∷ sub ∷ four entry) zeros
+
+abbrev mapCount : ℕ → ℕ → Call
+mapCount index n = sdo (0x2F ∷ index % 256 ∷ index / 256 ∷ 0 ∷ n ∷ 0 ∷ 0 ∷ 0 ∷ []) zeros
 
 -- the input, 6314h, in DISABLED and HOLD
 abbrev input : ℤ → Call
@@ -75,6 +82,16 @@ outAndIn = input (pos 100) ∷ control 1 ∷ tick ∷ choice 0x6330 2 ∷ time 0
 -- threshold 20, A 300, B 200, in HOLD at so many ir
 abbrev deadBand : ℤ → List Call
 deadBand r = choice 0x6342 1 ∷ word 0x6345 (pos 20) ∷ word 0x6343 (pos 300) ∷ word 0x6344 (pos 200) ∷ input r ∷ control 1 ∷ tick ∷ []
+
+-- a PDO brings the control word and the set point; it brings the control word twice; one is sent with the status word and the command
+abbrev cyclic : List Call
+cyclic = mapEntry 0x1600 1 0x60400010 ∷ mapEntry 0x1600 2 0x63000110 ∷ mapCount 0x1600 2 ∷ []
+
+abbrev twoWords : List Call
+twoWords = mapEntry 0x1600 1 0x60400010 ∷ mapEntry 0x1600 2 0x60400010 ∷ mapCount 0x1600 2 ∷ []
+
+abbrev telling : List Call
+telling = mapEntry 0x1A00 1 0x60410010 ∷ mapEntry 0x1A00 2 0x63100110 ∷ mapCount 0x1A00 2 ∷ []
 
 pub record Examples : Type 0 where
   pub limits : answer target (limited ++ (input (minus 32768) ∷ [])) ≡ told (minus 9950)
@@ -118,5 +135,18 @@ pub record Witnesses : Type 0 where
   pub returns :
       (altersNothing (control 7 ∷ []) (history (control 7 ∷ control 7 ∷ control 1 ∷ [])) ≡ true)
       × (answer state (control 7 ∷ control 7 ∷ control 1 ∷ control 7 ∷ []) ≡ told (pos ACTIVE))
+  -- a control word of 7 and a set point of 1000, received twice, lead to ACTIVE with that target
+  pub cyclic-active :
+      (answer state (cyclic ++ (receive (0x07 ∷ 0x00 ∷ 0xE8 ∷ 0x03 ∷ []) ∷ receive (0x07 ∷ 0x00 ∷ 0xE8 ∷ 0x03 ∷ []) ∷ [])) ≡ told (pos ACTIVE))
+      × (answer target (cyclic ++ (receive (0x07 ∷ 0x00 ∷ 0xE8 ∷ 0x03 ∷ []) ∷ receive (0x07 ∷ 0x00 ∷ 0xE8 ∷ 0x03 ∷ []) ∷ [])) ≡ told (pos 1000))
+  -- the first entry acts first: of the words 7 and 0 in one PDO the last counts, and 7 after 7 leads on
+  pub in-map-order :
+      map (λ bytes. answer state (twoWords ++ (receive bytes ∷ [])))
+      ((0x07 ∷ 0x00 ∷ 0x00 ∷ 0x00 ∷ []) ∷ (0x00 ∷ 0x00 ∷ 0x07 ∷ 0x00 ∷ []) ∷ (0x07 ∷ 0x00 ∷ 0x07 ∷ 0x00 ∷ []) ∷ [])
+      ≡ told (pos DISABLED) ∷ told (pos HOLD) ∷ told (pos ACTIVE) ∷ []
+  -- in HOLD at the target 0 the status word 265 and the command 0 are sent, and the fifth byte stays
+  pub told-by-pdo :
+      left (send (0xAA ∷ 0xAA ∷ 0xAA ∷ 0xAA ∷ 0xAA ∷ [])) (history (telling ++ (control 1 ∷ [])))
+      ≡ 0x09 ∷ 0x01 ∷ 0x00 ∷ 0x00 ∷ 0xAA ∷ []
   -- the factor counts: with the largest, an input of 1 is at full stroke
   pub factor-counts : answer target (factor 4294967295 ∷ input (pos 1) ∷ []) ≡ told (pos 16384)

@@ -4,7 +4,9 @@ use mathlib.Core.List.{List, [], _∷_}
 use mathlib.Core.Logic.{_≢_}
 use mathlib.Core.Path.{_≡_}
 use lib.ListN.{length}
-use Rattle.integers.specs.Words.{_is_}
+use Rattle.integers.specs.Words.{each, _is_}
+use Rattle.mapping.specs.Maps.{entryOf}
+use Rattle.mapping.specs.declared.Map.{Map}
 use Rattle.device.specs.States.{HOLD, ACTIVE}
 use Rattle.device.specs.Device.{freshDevice}
 use Rattle.device.specs.Sound.{Sound}
@@ -14,7 +16,7 @@ use Rattle.sdo.specs.Frames.{requestOf}
 use Rattle.sdo.specs.declared.Outcome.{Outcome}
 use Rattle.sdo.specs.declared.Outcome.the-variants.{Read, Written, Abort, Refused}
 use Rattle.rainsheave.specs.Calls.{sdoAnswer}
-use Rattle.promises.specs.Calls.{Call, fresh, sdo, control, fault, tick, jump, query, store, load, search, target, asked, after, number}
+use Rattle.promises.specs.Calls.{Call, fresh, sdo, control, fault, tick, jump, query, receive, send, store, load, search, target, asked, after, number}
 
 -- the device after a list of calls, the first of them first
 unfoldable pub afterAll : List Call → Device → Device
@@ -32,7 +34,12 @@ isWritten Written = true
 isWritten (Abort code) = false
 isWritten (Refused number) = false
 
--- a call that can change a setting or the set point: an acknowledged write to another object than 6040h, a load, a fresh device
+-- every counted entry of a map is the control word
+abbrev pub wordsAlone : Map → Bool
+wordsAlone m = each (m .count) (λ k. entryOf m k is 0x60400010)
+
+-- a call that can change a setting, the set point or a map: an acknowledged write to another object than 6040h, a received PDO with another one,
+-- a load, a fresh device
 abbrev pub alters : Call → Device → Bool
 alters fresh d = true
 alters (sdo request room) d = isWritten (sdoAnswer d request (length room) .outcome) && not (requestOf request .index is 0x6040)
@@ -41,6 +48,8 @@ alters (fault code) d = false
 alters tick d = false
 alters (jump n) d = false
 alters (query q) d = false
+alters (receive pdo) d = number (receive pdo) d is 0 && not (wordsAlone (d .maps .receive))
+alters (send room) d = false
 alters (store room) d = false
 alters (load image) d = number (load image) d is 0
 alters (search image tag) d = false
@@ -56,7 +65,7 @@ pub record Histories : Type 0 where
   pub sound : (calls : List Call) → Sound (history calls)
   -- so no call is ever refused by 1
   pub never-unsound : (calls : List Call) (c : Call) → number c (history calls) ≢ 1
-  -- settings and set point change by loads, by acknowledged writes to other objects than 6040h and by `fresh` alone
+  -- settings, set point and maps change by loads, by acknowledged writes to other objects than 6040h, by PDOs that have another one, and by `fresh` alone
   pub kept : (calls : List Call) (d : Device) → altersNothing calls d ≡ true → SameSettings (afterAll calls d) d
   -- so, with any calls between but those, whenever a device is back in a state `target` answers what it did
   pub target-kept :

@@ -4,6 +4,7 @@ pub mod Demand1
 pub mod Demand2
 pub mod Demand3
 pub mod WriteLength
+pub mod ProcessData
 pub mod History
 pub mod Examples
 pub mod Determined

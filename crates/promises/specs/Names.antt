@@ -1,33 +1,47 @@
--- The paper's numbers by their names, each as document 01 prints it: indexes, sizes, tags, entries of a time, states, status words,
+-- The papers' numbers by their names, each as document 01 prints it or document 02: indexes, sizes, tags, entries of a time, states, status words,
 -- abort codes, numbers handed back.
-use mathlib.Core.List.{List, [], _∷_, map}
+use mathlib.Core.List.{List, [], _∷_, _++_, map}
 use mathlib.Core.Path.{_≡_}
-use Prim.Native.Nat.{ℕ, _-_}
+use Prim.Native.Nat.{ℕ, _+_, _-_, _*_, _<_}
 use Rattle.objects.specs.Places.{HOLD-SET-POINT, UPPER-LIMIT, LOWER-LIMIT, SCALING-FACTOR, SCALING-OFFSET, ZERO-CORRECTION, RAMP-TYPE}
 use Rattle.objects.specs.Places.{ACCELERATION, ACCELERATION-POSITIVE, ACCELERATION-NEGATIVE, DECELERATION, DECELERATION-POSITIVE, DECELERATION-NEGATIVE}
-use Rattle.objects.specs.Places.{DEAD-BAND-TYPE, A-SIDE, B-SIDE, THRESHOLD, SET-POINT, CONTROL-WORD, STATUS-WORD, ERROR-CODE, COMMAND, SETTINGS, WRITABLE, ROWS}
+use Rattle.objects.specs.Places.{DEAD-BAND-TYPE, A-SIDE, B-SIDE, THRESHOLD, RECEIVE-MAP, TRANSMIT-MAP, SET-POINT, CONTROL-WORD, STATUS-WORD}
+use Rattle.objects.specs.Places.{ERROR-CODE, COMMAND, SETTINGS, WRITABLE, ROWS}
 use Rattle.objects.specs.Table.{rowAt}
 use Rattle.objects.specs.Lookup.{SECONDS, MILLI}
+use Rattle.device.specs.Device.{freshDevice}
 use Rattle.device.specs.States.{DISABLED, HOLD, ACTIVE, FAULT}
 use Rattle.device.specs.Queries.{STATUS-DISABLED, STATUS-HOLD, STATUS-ACTIVE, STATUS-FAULT, TARGET-MET}
 use Rattle.dictionary.specs.Aborts.{UNKNOWN-COMMAND, NO-OBJECT, NO-SUB-INDEX, READ-ONLY-ENTRY, TOO-MANY-BYTES, TOO-FEW-BYTES}
-use Rattle.dictionary.specs.Aborts.{TOO-HIGH, TOO-LOW, NO-SUCH-CHOICE, LIMITS-CROSSED, LOCKED-NOW}
+use Rattle.dictionary.specs.Aborts.{TOO-HIGH, TOO-LOW, NO-SUCH-CHOICE, LIMITS-CROSSED, LOCKED-NOW, MAP-TOO-LONG, NOT-MAPPABLE}
+use Rattle.dictionary.specs.Values.{valueAt}
 use Rattle.image.specs.Fields.{sizeAt}
 use Rattle.image.specs.Walk.{FIELD-CUT, NOT-FOUND}
-use Rattle.rainsheave.specs.Numbers.{UNSOUND, WRONG-LENGTH, NO-ROOM, NO-REPLY-DUE, NO-FAULT, NO-IMAGE-ROOM, NOT-FULL, BAD-VALUE, NOT-DISABLED}
+use Rattle.rainsheave.specs.Numbers.{UNSOUND, WRONG-LENGTH, NO-ROOM, NO-REPLY-DUE, NO-FAULT, NO-IMAGE-ROOM, NOT-FULL, BAD-VALUE, NOT-DISABLED, SHORT-PDO}
 
 -- the index of the object at a place, and of the setting with a tag
 abbrev pub indexAt : ℕ → ℕ
 indexAt place = rowAt place .index
 
+-- the sub-index of a value, and its index and sub-index as one number
+abbrev pub subAt : ℕ → ℕ
+subAt place = rowAt place .sub
+
+abbrev pub indexAndSub : ℕ → ℕ
+indexAndSub place = rowAt place .index * 256 + rowAt place .sub
+
+-- five places from one on
+abbrev pub fivePlaces : ℕ → List ℕ
+fivePlaces place = place ∷ (place + 1) ∷ (place + 2) ∷ (place + 3) ∷ (place + 4) ∷ []
+
 abbrev pub indexOfTag : ℕ → ℕ
 indexOfTag tag = rowAt (tag - 1) .index
 
--- the codes of the aborts in their order; the fifth place has two, by wish 1 of document 02
+-- the codes of the aborts in their order; the fifth place has two, by wish 1 of document 02, and the last two are those of a map, by wish 2
 abbrev pub ABORTS : List ℕ
 ABORTS =
     0x05040001 ∷ 0x06020000 ∷ 0x06090011 ∷ 0x06010002 ∷ 0x06070012 ∷ 0x06070013
-    ∷ 0x06090031 ∷ 0x06090032 ∷ 0x06090030 ∷ 0x06090036 ∷ 0x08000022 ∷ []
+    ∷ 0x06090031 ∷ 0x06090032 ∷ 0x06090030 ∷ 0x06090036 ∷ 0x08000022 ∷ 0x06040042 ∷ 0x06040041 ∷ []
 
 pub record Names : Type 0 where
   -- which object is at which index
@@ -49,12 +63,25 @@ pub record Names : Type 0 where
   pub a-side : indexAt A-SIDE ≡ 0x6343
   pub b-side : indexAt B-SIDE ≡ 0x6344
   pub threshold : indexAt THRESHOLD ≡ 0x6345
+  -- the maps: the number of entries and the four entries of each, by index and sub-index
+  pub receive-map : map indexAndSub (fivePlaces RECEIVE-MAP) ≡ 0x160000 ∷ 0x160001 ∷ 0x160002 ∷ 0x160003 ∷ 0x160004 ∷ []
+  pub transmit-map : map indexAndSub (fivePlaces TRANSMIT-MAP) ≡ 0x1A0000 ∷ 0x1A0001 ∷ 0x1A0002 ∷ 0x1A0003 ∷ 0x1A0004 ∷ []
   -- how many there are, how many can be written, and how many are stored
-  pub rows : ROWS ≡ 22
-  pub writable : WRITABLE ≡ 19
+  pub rows : ROWS ≡ 32
+  pub writable : WRITABLE ≡ 29
   pub settings : SETTINGS ≡ 17
-  -- their sizes: one byte for I8, four for U32, two for I16 and U16
+  -- the sub-index of their values: 0 of a variable, 1 of a record
+  pub of-variables : map subAt (CONTROL-WORD ∷ STATUS-WORD ∷ ERROR-CODE ∷ SCALING-FACTOR ∷ RAMP-TYPE ∷ DEAD-BAND-TYPE ∷ []) ≡ 0 ∷ 0 ∷ 0 ∷ 0 ∷ 0 ∷ 0 ∷ []
+  pub of-records :
+      map subAt
+      (SET-POINT ∷ COMMAND ∷ HOLD-SET-POINT ∷ UPPER-LIMIT ∷ LOWER-LIMIT ∷ SCALING-OFFSET ∷ ZERO-CORRECTION ∷ ACCELERATION
+      ∷ ACCELERATION-POSITIVE ∷ ACCELERATION-NEGATIVE ∷ DECELERATION ∷ DECELERATION-POSITIVE ∷ DECELERATION-NEGATIVE ∷ A-SIDE ∷ B-SIDE ∷ THRESHOLD ∷ [])
+      ≡ 1 ∷ 1 ∷ 1 ∷ 1 ∷ 1 ∷ 1 ∷ 1 ∷ 1 ∷ 1 ∷ 1 ∷ 1 ∷ 1 ∷ 1 ∷ 1 ∷ 1 ∷ 1 ∷ []
+  -- a fresh device has the fresh value of each row that can be written
+  pub fresh : (place : ℕ) → place < WRITABLE → valueAt freshDevice place ≡ rowAt place .fresh
+  -- their sizes: one byte for I8, four for U32, two for I16 and U16; of a map one for the number of entries and four for an entry
   pub of-one-byte : map sizeAt (RAMP-TYPE ∷ DEAD-BAND-TYPE ∷ []) ≡ 1 ∷ 1 ∷ []
+  pub of-a-map : map sizeAt (fivePlaces RECEIVE-MAP ++ fivePlaces TRANSMIT-MAP) ≡ 1 ∷ 4 ∷ 4 ∷ 4 ∷ 4 ∷ 1 ∷ 4 ∷ 4 ∷ 4 ∷ 4 ∷ []
   pub of-four-bytes :
       map sizeAt
       (SCALING-FACTOR ∷ ACCELERATION ∷ ACCELERATION-POSITIVE ∷ ACCELERATION-NEGATIVE ∷ DECELERATION ∷ DECELERATION-POSITIVE ∷ DECELERATION-NEGATIVE ∷ [])
@@ -77,10 +104,10 @@ pub record Names : Type 0 where
   -- the aborts in their order
   pub aborts :
       UNKNOWN-COMMAND ∷ NO-OBJECT ∷ NO-SUB-INDEX ∷ READ-ONLY-ENTRY ∷ TOO-MANY-BYTES ∷ TOO-FEW-BYTES
-      ∷ TOO-HIGH ∷ TOO-LOW ∷ NO-SUCH-CHOICE ∷ LIMITS-CROSSED ∷ LOCKED-NOW ∷ []
+      ∷ TOO-HIGH ∷ TOO-LOW ∷ NO-SUCH-CHOICE ∷ LIMITS-CROSSED ∷ LOCKED-NOW ∷ MAP-TOO-LONG ∷ NOT-MAPPABLE ∷ []
       ≡ ABORTS
   -- the numbers handed back
   pub numbers :
-      UNSOUND ∷ WRONG-LENGTH ∷ NO-ROOM ∷ NO-REPLY-DUE ∷ NO-FAULT ∷ NO-IMAGE-ROOM ∷ NOT-FULL ∷ BAD-VALUE ∷ NOT-DISABLED ∷ []
-      ≡ 1 ∷ 2 ∷ 3 ∷ 4 ∷ 5 ∷ 6 ∷ 7 ∷ 8 ∷ 9 ∷ []
+      UNSOUND ∷ WRONG-LENGTH ∷ NO-ROOM ∷ NO-REPLY-DUE ∷ NO-FAULT ∷ NO-IMAGE-ROOM ∷ NOT-FULL ∷ BAD-VALUE ∷ NOT-DISABLED ∷ SHORT-PDO ∷ []
+      ≡ 1 ∷ 2 ∷ 3 ∷ 4 ∷ 5 ∷ 6 ∷ 7 ∷ 8 ∷ 9 ∷ 14 ∷ []
   pub search : FIELD-CUT ∷ NOT-FOUND ∷ [] ≡ 7 ∷ 10 ∷ []

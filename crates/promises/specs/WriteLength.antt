@@ -77,7 +77,7 @@ pub record WriteLength : Type 0 where
   pub replied :
       (d : Device) (request room : List ℕ) (code : ℕ) → sdoAnswer d request (length room) .outcome ≡ Abort code →
       sdoRoom d request room ≡ frame 0x80 (indexIn request) (subIn request) (fourBytes code) ++ drop 8 room
-  -- every abort has one of the eleven codes
+  -- every abort has one of the thirteen codes
   pub codes : (d : Device) (request : List ℕ) (room code : ℕ) → sdoAnswer d request room .outcome ≡ Abort code → code among ABORTS ≡ true
   -- so 06070010h is given nowhere
   pub retired : (d : Device) (request : List ℕ) (room : ℕ) → sdoAnswer d request room .outcome ≢ Abort 0x06070010

@@ -16,13 +16,14 @@ use Rattle.objects.specs.Table.{objects, isSigned}
 use Rattle.objects.specs.Lookup.{placeFrom, placeOf, entryAt}
 use Rattle.coding.specs.Bytes.{byteAt}
 use Rattle.coding.specs.Coding.{span, inSpan, valueOf}
+use Rattle.mapping.specs.Maps.{counted, mapLength}
 use Rattle.device.specs.Events.{controlled}
 use Rattle.device.specs.Sound.{soundDevice, Sound}
 use Rattle.device.specs.declared.Device.{Device}
 use Rattle.device.proofs.Laws as Devices
 use Rattle.dictionary.specs.Named.{named}
 use Rattle.dictionary.specs.Values.{writtenTo}
-use Rattle.dictionary.specs.Decide.{crosses, isLocked, verdictOn, writeOf, writeDecision}
+use Rattle.dictionary.specs.Decide.{crosses, isLocked, mapRuling, verdictOn, writeOf, writeDecision}
 use Rattle.dictionary.specs.declared.Decision.the-variants.{Write}
 use Rattle.dictionary.proofs.Laws.{is-accepted}
 use Rattle.sdo.specs.Frames.{FRAME, asksOf, repliedIn, requestOf}
@@ -31,8 +32,10 @@ use Rattle.sdo.specs.declared.Request.{Request}
 use Rattle.sdo.specs.declared.Outcome.the-variants.{Written, Refused}
 use Rattle.sdo.specs.declared.Answer.{Answer}
 use Rattle.sdo.proofs.Promises.{not-written-unchanged, served-sound}
+use Rattle.pdo.specs.Receive.{dataIn, acted}
+use Rattle.pdo.proofs.Laws.{received-sound}
 use Rattle.rainsheave.specs.Numbers.{UNSOUND, WRONG-LENGTH, NO-ROOM, NO-REPLY-DUE}
-use Rattle.rainsheave.specs.Calls.{isClientAbort, sdoAnswer, sdoRoom, numberOfReport, changed, controlAnswer, faultAnswer, tickAnswer, jumpAnswer}
+use Rattle.rainsheave.specs.Calls.{isClientAbort, sdoAnswer, sdoRoom, numberOfReport, changed, controlAnswer, faultAnswer, tickAnswer, jumpAnswer, receiveAnswer}
 use Rattle.rainsheave.specs.declared.Change.{Change}
 
 -- ---- a refusal leaves everything as it was
@@ -83,6 +86,10 @@ pub jump-sound : {d : Device} → Sound d → (n : ℕ) → Sound (jumpAnswer d 
 unfolding jumpAnswer
 jump-sound s n = changed-sound _ s (Devices.jump-sound s n)
 
+pub receive-sound : {d : Device} → Sound d → (pdo : List ℕ) → Sound (receiveAnswer d pdo .device)
+unfolding receiveAnswer
+receive-sound {d} s pdo = changed-sound _ s (by-test (λ (c : Change). Sound (c .device)) (ltb (length pdo) (mapLength (d .maps .receive))) (λ e. s) (λ e. received-sound (counted (d .maps .receive)) pdo s))
+
 -- ---- `control` is an accepted write of 6040h
 
 -- the request that writes a control word
@@ -91,9 +98,14 @@ writing word = record { command = 0x2B; sub = 0; index = 0x6040; number = word }
 
 -- a control word may be written in every state
 word-accepted : (d : Device) (word : ℕ) → word < 65536 → verdictOn d CONTROL-WORD 2 (pos word) ≡ Write CONTROL-WORD (pos word)
-unfolding objects crosses isLocked
+unfolding objects crosses isLocked mapRuling
 word-accepted d word h =
-    is-accepted {d = d} {place = CONTROL-WORD} {size = 2} {x = pos word} (record { writable = refl; sized = refl; range = omega (arith, ints); uncrossed = refl; unlocked = refl })
+    is-accepted {d = d} {place = CONTROL-WORD} {size = 2} {x = pos word} (record { writable = refl; sized = refl; range = omega (arith, ints); uncrossed = refl; unlocked = refl; unruled = refl })
+
+-- so is a word that a PDO brings
+pub word-received : (d : Device) (bytes : List ℕ) → acted 0x60400010 bytes d ≡ controlled (dataIn bytes % 65536) d
+unfolding acted writeDecision named placeOf placeFrom entryAt objects writeOf isSigned valueOf span inSpan writtenTo
+word-received d bytes = rw (word-accepted d (dataIn bytes % 65536) (omega arith))
 
 pub control-is-a-write : (d : Device) (word : ℕ) → word < 65536 → served d (writing word) ≡ answer Written (controlled word d)
 unfolding served decisionOn asksOf writeDecision named placeOf placeFrom entryAt objects writeOf isSigned valueOf span inSpan writtenTo

@@ -1,4 +1,4 @@
--- Document 01, "Numbers handed back": what each call answers. Whatever number but 0 is handed back, the state is the given one.
+-- Document 01, "Numbers handed back", with wish 2 of document 02: what each call answers. Whatever number but 0 is handed back, the state is the given one.
 use mathlib.Core.Bool.{Bool, not}
 use mathlib.Core.List.{List}
 use Prim.Native.Nat.{ℕ, _/_}
@@ -8,6 +8,7 @@ use Rattle.integers.specs.Words.{if_then_else_, _is_, _below_}
 use Rattle.coding.specs.Bytes.{byteAt}
 use Rattle.block.specs.Block.{withSettings}
 use Rattle.block.specs.Sound.{soundSettings}
+use Rattle.mapping.specs.Maps.{counted, mapLength}
 use Rattle.image.specs.Fields.{IMAGE-LENGTH, storedIn}
 use Rattle.image.specs.Load.{isFull, settingsIn}
 use Rattle.device.specs.States.{DISABLED}
@@ -19,11 +20,14 @@ use Rattle.sdo.specs.Frames.{FRAME, requestOf, repliedIn}
 use Rattle.sdo.specs.Serve.{answer, served}
 use Rattle.sdo.specs.declared.Answer.{Answer}
 use Rattle.sdo.specs.declared.Outcome.the-variants.{Refused as Refuse}
-use Rattle.rainsheave.specs.Numbers.{UNSOUND, WRONG-LENGTH, NO-ROOM, NO-REPLY-DUE, NO-FAULT, NO-IMAGE-ROOM, NOT-FULL, BAD-VALUE, NOT-DISABLED}
+use Rattle.pdo.specs.Receive.{received}
+use Rattle.pdo.specs.Send.{sentIn}
+use Rattle.rainsheave.specs.Numbers.{UNSOUND, WRONG-LENGTH, NO-ROOM, NO-REPLY-DUE, NO-FAULT, NO-IMAGE-ROOM, NOT-FULL, BAD-VALUE, NOT-DISABLED, SHORT-PDO}
 use Rattle.rainsheave.specs.declared.Report.{Report}
 use Rattle.rainsheave.specs.declared.Report.the-variants.{Done, Refused}
 use Rattle.rainsheave.specs.declared.Change.{Change}
 use Rattle.rainsheave.specs.declared.Reading.{Reading}
+use Rattle.rainsheave.specs.declared.Sent.{Sent}
 
 -- the paper's number of a report: 0 where it is done
 abbrev pub numberOfReport : Report → ℕ
@@ -79,6 +83,32 @@ faultAnswer d code =
     changed d
     (if code is 0 then change (Refused NO-FAULT) d
     else change Done (faulted code d))
+
+-- a received PDO: 1, 14; else its map's entries act
+unfoldable pub receiveAnswer : Device → List ℕ → Change
+receiveAnswer d pdo =
+    changed d
+    (if length pdo below mapLength (d .maps .receive) then change (Refused SHORT-PDO) d
+    else change Done (received (counted (d .maps .receive)) pdo d))
+
+-- a report beside how many bytes were written
+abbrev pub pdoSent : Report → ℕ → Sent
+pdoSent report length = record { length = length; report = report }
+
+-- a PDO to be sent, with so much room: 1, 3; none is written beside a refusal
+unfoldable pub sendAnswer : Device → ℕ → Sent
+sendAnswer d room =
+    if not (soundDevice d) then pdoSent (Refused UNSOUND) 0
+    else if room below mapLength (d .maps .transmit) then pdoSent (Refused NO-ROOM) 0
+    else pdoSent Done (mapLength (d .maps .transmit))
+
+-- the room after it; a refusal writes nothing
+abbrev pub sendRoomBy : Report → Device → List ℕ → List ℕ
+sendRoomBy Done d room = sentIn d (counted (d .maps .transmit)) room
+sendRoomBy (Refused number) d room = room
+
+unfoldable pub sendRoom : Device → List ℕ → List ℕ
+sendRoom d room = sendRoomBy (sendAnswer d (length room) .report) d room
 
 -- a store with so much room: 1, 6
 unfoldable pub storeAnswer : Device → ℕ → Report

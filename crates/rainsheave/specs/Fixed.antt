@@ -9,11 +9,12 @@ use Rattle.device.specs.Queries.{statusOf, deviceTarget, deviceCommand, deviceT
 use Rattle.device.specs.declared.Device.{Device}
 use Rattle.sdo.specs.declared.Answer.{Answer}
 use Rattle.rainsheave.specs.Calls.{sdoAnswer, sdoRoom, controlAnswer, faultAnswer, tickAnswer, jumpAnswer, queryAnswer}
-use Rattle.rainsheave.specs.Calls.{storeAnswer, storeRoom, loadAnswer}
+use Rattle.rainsheave.specs.Calls.{receiveAnswer, sendAnswer, sendRoom, storeAnswer, storeRoom, loadAnswer}
 use Rattle.image.specs.Walk.{walk, partOf, beginOf, codeOf}
 use Rattle.rainsheave.specs.declared.Report.{Report}
 use Rattle.rainsheave.specs.declared.Change.{Change}
 use Rattle.rainsheave.specs.declared.Reading.{Reading}
+use Rattle.rainsheave.specs.declared.Sent.{Sent}
 
 -- `fresh`
 pub record FreshIs (r : Device) : Type 0 where
@@ -67,6 +68,15 @@ pub record CommandIs (d : Device) (r : Reading) : Type 0 where
 -- `ticks_to_go`
 pub record TicksToGoIs (d : Device) (r : Reading) : Type 0 where
   pub result : r ≡ queryAnswer d (pos (deviceTicksToGo d))
+
+-- `receive` of a PDO
+pub record ReceiveIs (d : Device) (pdo : List ℕ) (r : Change) : Type 0 where
+  pub result : r ≡ receiveAnswer d pdo
+
+-- `send`, with the room for the PDO before and after
+pub record SendIs (d : Device) (before after : List ℕ) (r : Sent) : Type 0 where
+  pub result : r ≡ sendAnswer d (length before)
+  pub bytes : after ≡ sendRoom d before
 
 -- `store` of a device's settings, with the room for the image before and after
 pub record StoreIs (d : Device) (before after : List ℕ) (r : Report) : Type 0 where

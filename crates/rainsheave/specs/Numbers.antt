@@ -1,4 +1,4 @@
--- Document 01, "Numbers handed back": 0 is done, an abort reply included; each other number refuses.
+-- Document 01, "Numbers handed back", with wish 2 of document 02: 0 is done, an abort reply included; each other number refuses.
 use Prim.Native.Nat.{ℕ}
 
 -- the state isn't sound
@@ -9,7 +9,7 @@ UNSOUND = 1
 abbrev pub WRONG-LENGTH : ℕ
 WRONG-LENGTH = 2
 
--- reply room under eight
+-- reply room under eight; room to send that is shorter than the map
 abbrev pub NO-ROOM : ℕ
 NO-ROOM = 3
 
@@ -36,3 +36,7 @@ BAD-VALUE = 8
 -- load outside DISABLED
 abbrev pub NOT-DISABLED : ℕ
 NOT-DISABLED = 9
+
+-- a received PDO shorter than its map
+abbrev pub SHORT-PDO : ℕ
+SHORT-PDO = 14

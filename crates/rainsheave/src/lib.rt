@@ -4,7 +4,7 @@ ghost use mathlib.Core.Path.{_≡_};
 ghost use lib.IntN.{pos};
 ghost use Rattle.device.specs.Sound.{soundDevice};
 ghost use Rattle.sdo.specs.Serve.{answer};
-ghost use Rattle.rainsheave.specs.Calls.{change, numberOfReport};
+ghost use Rattle.rainsheave.specs.Calls.{change, pdoSent, numberOfReport};
 ghost use Rattle.sdo.specs.Frames.{numberHandedBack};
 ghost use Rattle.rainsheave.specs.Fixed.{
   FreshIs,
@@ -20,6 +20,8 @@ ghost use Rattle.rainsheave.specs.Fixed.{
   TargetIs,
   CommandIs,
   TicksToGoIs,
+  ReceiveIs,
+  SendIs,
   StoreIs,
   LoadIs,
   FindIs,
@@ -37,10 +39,13 @@ use crate::number::NO_REPLY_DUE;
 use crate::number::NO_ROOM;
 use crate::number::NOT_DISABLED;
 use crate::number::NOT_FULL;
+use crate::number::SHORT_PDO;
 use crate::number::UNSOUND;
 use crate::number::WRONG_LENGTH;
 use device::DISABLED;
 use device::Device;
+pub use mapping::RECEIVABLE;
+pub use mapping::SENDABLE;
 pub use objects::index;
 use sdo::Answer;
 use sdo::Outcome;
@@ -66,6 +71,12 @@ pub struct Reading {
     pub number: u8,
 }
 
+// What was sent: a report beside how many bytes were written, which are none where it is refused.
+pub struct Sent {
+    pub length: usize,
+    pub report: Report,
+}
+
 fn refused_request(device: Device, number: u8) -> Answer
     ensures { λ r. ⌜ r ≡ answer (Outcome.Refused number) device ⌝ }
 {
@@ -85,6 +96,13 @@ fn done(device: Device) -> Change
 {
     let report = Report::Done;
     Change { device, report }
+}
+
+fn not_sent(number: u8) -> Sent
+    ensures { λ r. ⌜ r ≡ pdoSent (Report.Refused number) 0 ⌝ }
+{
+    let report = Report::Refused(number);
+    Sent { length: 0, report }
 }
 
 fn told(value: i64) -> Reading
@@ -264,6 +282,39 @@ pub fn ticks_to_go(device: Device) -> Reading
     } else {
         not_told()
     }
+}
+
+// A PDO is received: the first bytes act as its map says.
+pub fn receive(device: Device, pdo: &[u8]) -> Change
+    ensures { λ r. ⌜ ReceiveIs device (now (pdo .entry)) r ⌝ }
+{
+    if !device::is_sound(device) {
+        return refused(device, UNSOUND);
+    }
+    let maps = device.maps;
+    let map = maps.receive;
+    if pdo.len() < mapping::length(map) {
+        return refused(device, SHORT_PDO);
+    }
+    done(pdo::receive(device, pdo))
+}
+
+// A PDO is sent: the mapped values go to the first bytes of the room.
+pub fn send(device: Device, room: &mut [u8]) -> Sent
+    ensures { λ r. ⌜ SendIs device (now (room .entry)) (now (room .exit)) r ⌝ }
+{
+    if !device::is_sound(device) {
+        return not_sent(UNSOUND);
+    }
+    let maps = device.maps;
+    let map = maps.transmit;
+    let length = mapping::length(map);
+    if room.len() < length {
+        return not_sent(NO_ROOM);
+    }
+    pdo::send(device, room);
+    let report = Report::Done;
+    Sent { length, report }
 }
 
 // The image of the device's settings goes to the first 97 bytes of the room.

@@ -21,3 +21,5 @@ pub const NOT_FULL: u8 = 7;
 pub const BAD_VALUE: u8 = 8;
 
 pub const NOT_DISABLED: u8 = 9;
+
+pub const SHORT_PDO: u8 = 14;

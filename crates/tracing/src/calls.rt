@@ -4,6 +4,9 @@ use crate::UNTOUCHED;
 use block::Block;
 use device::Device;
 use image::IMAGE_LENGTH;
+use mapping::ENTRIES;
+use mapping::Map;
+use mapping::Maps;
 use objects::SETTINGS;
 use rainsheave::Change;
 
@@ -60,6 +63,17 @@ fn call_store(device: Device) -> Called {
     }
 }
 
+fn call_send(device: Device) -> Called {
+    let mut room = [UNTOUCHED; 8];
+    let sent = rainsheave::send(device, &mut room);
+    let report = sent.report;
+    Called {
+        device: device,
+        number: rainsheave::number_of_report(report),
+        kept: is_untouched(&room),
+    }
+}
+
 fn call_status(device: Device) -> Called {
     let reading = rainsheave::status(device);
     Called {
@@ -69,10 +83,10 @@ fn call_status(device: Device) -> Called {
     }
 }
 
-// One of eight calls.
+// One of ten calls.
 pub fn call(device: Device, event: Event, image: [u8; IMAGE_LENGTH]) -> Called {
     let bytes = event.bytes;
-    let which = event.number % 8;
+    let which = event.number % 10;
     match which {
         0 => call_sdo(device, bytes),
         1 => of_change(rainsheave::control(device, event.word)),
@@ -81,7 +95,9 @@ pub fn call(device: Device, event: Event, image: [u8; IMAGE_LENGTH]) -> Called {
         4 => of_change(rainsheave::jump(device, 1)),
         5 => call_store(device),
         6 => of_change(rainsheave::load(device, &image)),
-        _ => call_status(device),
+        7 => call_status(device),
+        8 => of_change(rainsheave::receive(device, &bytes)),
+        _ => call_send(device),
     }
 }
 
@@ -104,11 +120,32 @@ fn is_same_block(a: Block, b: Block) -> bool {
     a.setpoint == b.setpoint && a.position == b.position && has_same_settings(ours, theirs)
 }
 
+fn has_same_entries(a: [u32; ENTRIES], b: [u32; ENTRIES]) -> bool {
+    a[0] == b[0] && a[1] == b[1] && a[2] == b[2] && a[3] == b[3]
+}
+
+fn is_same_map(a: Map, b: Map) -> bool {
+    let ours = a.entries;
+    let theirs = b.entries;
+    a.count == b.count && has_same_entries(ours, theirs)
+}
+
+fn has_same_maps(a: Maps, b: Maps) -> bool {
+    let our_receive = a.receive;
+    let their_receive = b.receive;
+    let our_transmit = a.transmit;
+    let their_transmit = b.transmit;
+    is_same_map(our_receive, their_receive) && is_same_map(our_transmit, their_transmit)
+}
+
 pub fn is_same(a: Device, b: Device) -> bool {
-    let ours = a.block;
-    let theirs = b.block;
+    let our_block = a.block;
+    let their_block = b.block;
+    let our_maps = a.maps;
+    let their_maps = b.maps;
     a.state == b.state
         && a.control == b.control
         && a.error == b.error
-        && is_same_block(ours, theirs)
+        && is_same_block(our_block, their_block)
+        && has_same_maps(our_maps, their_maps)
 }

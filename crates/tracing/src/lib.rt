@@ -40,11 +40,13 @@ const RECORD_LENGTH: usize = 16;
 // The most room that a call is lent, and every byte of it before the call.
 const REPLY_ROOM: usize = 12;
 
+const PDO_ROOM: usize = 12;
+
 const IMAGE_ROOM: usize = 100;
 
 const UNTOUCHED: u8 = 0xAA;
 
-// A request with the number's four bytes after the eight.
+// A request or a PDO with the number's four bytes after the eight.
 const WIDE_LENGTH: usize = 12;
 
 // The image with as many bytes more as a record can ask for.
@@ -82,6 +84,10 @@ const WIDE: u8 = 13;
 const APPEND: u8 = 14;
 
 const BROKEN: u8 = 15;
+
+const RECEIVE: u8 = 16;
+
+const SEND: u8 = 17;
 
 // How a load alters the image.
 const CUT: u8 = 1;
@@ -229,6 +235,31 @@ fn trace_wide(run: Run, event: Event, text: &mut [u8], at: usize) -> Traced {
     let bytes = wide_bytes(event);
     let request = first(&bytes, event.small as usize);
     trace_request(run, request, event.word, text, at, b"wide")
+}
+
+// A PDO that can be shorter or longer than what its map asks for.
+fn receive(run: Run, event: Event) -> Change {
+    let device = run.device;
+    let bytes = wide_bytes(event);
+    rainsheave::receive(device, first(&bytes, event.small as usize))
+}
+
+// A PDO is sent, with its room.
+fn trace_send_in(run: Run, room: &mut [u8], text: &mut [u8], at: usize) -> Traced {
+    let device = run.device;
+    let sent = rainsheave::send(device, room);
+    let report = sent.report;
+    let at = put_result(text, at, b"send", rainsheave::number_of_report(report));
+    let at = put(text, at, b' ');
+    let at = put_number(text, at, sent.length as u64);
+    let end = put_bytes(text, at, room);
+    Traced { run, end }
+}
+
+fn trace_send(run: Run, event: Event, text: &mut [u8], at: usize) -> Traced {
+    let mut room = [UNTOUCHED; PDO_ROOM];
+    let room = first_mut(&mut room, event.word as usize);
+    trace_send_in(run, room, text, at)
 }
 
 // So many single ticks. The report is that of the last; where there is none, nothing is refused.
@@ -453,6 +484,8 @@ fn trace_kind(run: Run, event: Event, text: &mut [u8], at: usize) -> Traced {
         WIDE => trace_wide(run, event, text, at),
         APPEND => trace_change(run, load_longer(run, event.small, low), text, at, b"append"),
         BROKEN => trace_broken(run, event, text, at),
+        RECEIVE => trace_change(run, receive(run, event), text, at, b"receive"),
+        SEND => trace_send(run, event, text, at),
         _ => trace_unknown(run, kind, text, at),
     }
 }

@@ -3,6 +3,8 @@ use device::ACTIVE;
 use device::Device;
 use device::FAULT;
 use device::HOLD;
+use mapping::ENTRIES;
+use mapping::Map;
 use objects::FULL_POSITION;
 use objects::LOWER_LIMIT;
 use objects::SETTINGS;
@@ -23,6 +25,18 @@ const OUT_OF_RANGE: i64 = -40000;
 const SET_POINT_ABOVE: i64 = 32768;
 
 const SET_POINT_BELOW: i64 = -32769;
+
+// All the entries that a map has, one more, and the highest number that could be counted.
+const EVERY_ENTRY: u8 = 4;
+
+const TOO_MANY: u8 = 5;
+
+const MOST: u8 = 255;
+
+// What may be sent but not received, and what may be received but not sent.
+const ONLY_SENT: u32 = 0x60410010;
+
+const ONLY_RECEIVED: u32 = 0x60400010;
 
 fn with_state(device: Device, state: u8) -> Device {
     let mut other = device;
@@ -94,6 +108,62 @@ fn with_wrong_position(device: Device, off_rest: i64, beyond: i64) -> Device {
     }
 }
 
+// ---- maps
+
+// A word picks the map: the receive map where it is even.
+fn is_of_receive(word: u16) -> bool {
+    word % 2 == 0
+}
+
+fn map_of(device: Device, word: u16) -> Map {
+    let maps = device.maps;
+    if is_of_receive(word) {
+        maps.receive
+    } else {
+        maps.transmit
+    }
+}
+
+fn with_map(device: Device, word: u16, map: Map) -> Device {
+    let maps = device.maps;
+    if is_of_receive(word) {
+        device::with_maps(device, mapping::with_receive(maps, map))
+    } else {
+        device::with_maps(device, mapping::with_transmit(maps, map))
+    }
+}
+
+fn with_count(device: Device, word: u16, count: u8) -> Device {
+    let mut map = map_of(device, word);
+    map.count = count;
+    with_map(device, word, map)
+}
+
+// Half the word picks the entry.
+fn with_entry(device: Device, word: u16, entry: u32) -> Device {
+    let mut map = map_of(device, word);
+    let place = word as usize / 2 % ENTRIES;
+    map.entries[place] = entry;
+    with_map(device, word, map)
+}
+
+// An entry that only the other map may have.
+fn with_wrong_entry(device: Device, word: u16) -> Device {
+    if is_of_receive(word) {
+        with_entry(device, word, ONLY_SENT)
+    } else {
+        with_entry(device, word, ONLY_RECEIVED)
+    }
+}
+
+// An entry that is counted, and zero.
+fn with_zero_counted(device: Device, word: u16) -> Device {
+    let counting = with_count(device, word, EVERY_ENTRY);
+    with_entry(counting, word, 0)
+}
+
+// ---- the ways
+
 // The device, made unsound in one of six ways.
 pub fn altered(device: Device, way: u8, word: u16) -> Device {
     match way {
@@ -106,8 +176,8 @@ pub fn altered(device: Device, way: u8, word: u16) -> Device {
     }
 }
 
-// The device, made unsound in one of nine further ways: one step beyond a range, at the ends of an i64, and downward where `altered`
-// goes upward.
+// The device, made unsound in one of thirteen further ways: one step beyond a range, at the ends of an i64, downward where `altered`
+// goes upward, and in a map.
 pub fn broken(device: Device, way: u8, word: u16) -> Device {
     match way {
         0 => with_setting(device, word, above(word)),
@@ -118,6 +188,10 @@ pub fn broken(device: Device, way: u8, word: u16) -> Device {
         5 => with_wrong_position(device, -1, -BEYOND),
         6 => with_set_point(device, SET_POINT_ABOVE),
         7 => with_set_point(device, SET_POINT_BELOW),
+        8 => with_count(device, word, TOO_MANY),
+        9 => with_count(device, word, MOST),
+        10 => with_wrong_entry(device, word),
+        11 => with_zero_counted(device, word),
         _ => with_state(device, LAST_STATE),
     }
 }

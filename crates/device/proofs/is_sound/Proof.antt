@@ -1,19 +1,31 @@
--- The code and the definition make the same three tests: `first` is the two on the left.
+-- The code and the definition make the same four tests: `first` is the two on the left, and `second` the three.
 use mathlib.Core.Path.{_≡_, sym, _∙_}
-use mathlib.Core.Bool.{_&&_}
+use mathlib.Core.Bool.{Bool, _&&_}
 use mathlib.Core.Logic.{⊎-elim}
 use borrow.Author.Needs.{needs}
+use Rattle.mapping.specs.Sound.{soundMaps}
 use Rattle.device.specs.Sound.{isState, errorFits, rests, soundDevice}
+use Rattle.device.specs.declared.Device.{Device}
 use Rattle.device.proofs.is_sound.Statement.{statement}
 use Rattle.device.proofs.is_sound.Tie as tie
 
-first : (c : tie.Joined1) → let d = c .before .before .before .args .device in c .if1 .if2 ≡ ((isState (d .state) && errorFits (d .state) (d .error)) && rests d)
+abbrev firstTests : Device → Bool
+firstTests d = (isState (d .state) && errorFits (d .state) (d .error)) && rests d
+
+first : (c : tie.Joined1) → c .if1 .if2 ≡ firstTests (c .before .before .before .before .args .device)
 first c =
     let state = c .before .state-fits in
     ⊎-elim
     (λ w. w .2 ∙ w .1 .ensures ∙ simp (sym (state .ensures) ∙ w .0 .taken))
     (λ w. w .1 ∙ w .0 .left ∙ simp (sym (state .ensures) ∙ w .0 .left))
     (c .if1 .came)
+
+second : (c : tie.Joined2) → let d = c .before .before .before .before .before .args .device in c .if2 .if3 ≡ (firstTests d && soundMaps (d .maps))
+second c =
+    ⊎-elim
+    (λ w. w .2 ∙ w .1 .ensures ∙ simp (sym (first (c .before)) ∙ w .0 .taken))
+    (λ w. w .1 ∙ w .0 .left ∙ simp (sym (first (c .before)) ∙ w .0 .left))
+    (c .if2 .came)
 
 pub is-sound-spec : {M : Type 1} → statement M
 unfolding soundDevice
@@ -23,5 +35,6 @@ is-sound-spec =
     (λ c κs. search needs)
     (λ c κs. search needs)
     (λ c κs. search needs)
-    (λ c. c .is-sound .ensures ∙ simp (sym (first (c .before .before)) ∙ c .before .if2 .taken))
-    (λ c. c .if2 .left ∙ simp (sym (first (c .before)) ∙ c .if2 .left)))
+    (λ c κs. search needs)
+    (λ c. c .is-sound2 .ensures ∙ simp (sym (second (c .before .before)) ∙ c .before .if3 .taken))
+    (λ c. c .if3 .left ∙ simp (sym (second (c .before)) ∙ c .if3 .left)))

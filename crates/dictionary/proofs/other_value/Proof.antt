@@ -1,6 +1,6 @@
 -- In an arm the place is known: its branch of the definition and its row's range compute. What no arm takes is the last place.
 use mathlib.Core.Path.{_≡_, refl}
-use Prim.Native.Nat.{ℕ, _<_, _≤_, _+_}
+use Prim.Native.Nat.{ℕ, _<_, _≤_}
 use native.Mathlib.Omega.{arith}
 use borrow.Author.Needs.{needs}
 use lib.IntN.{pos}
@@ -11,7 +11,7 @@ use Rattle.integers.specs.Range.{Within}
 use Rattle.integers.proofs.Linear.{ints}
 use Rattle.integers.proofs.Machine.{told}
 use Rattle.integers.proofs.Range.{fits}
-use Rattle.objects.specs.Places.{SET-POINT, CONTROL-WORD, STATUS-WORD, ERROR-CODE, COMMAND, SETTINGS, ROWS}
+use Rattle.objects.specs.Places.{SET-POINT, CONTROL-WORD, STATUS-WORD, ERROR-CODE, COMMAND, ROWS}
 use Rattle.objects.specs.Table.{objects}
 use Rattle.device.proofs.Laws.{status-most}
 use Rattle.dictionary.specs.Values.{valueAt}
@@ -22,7 +22,7 @@ use Rattle.dictionary.proofs.other_value.Tie as tie
 word : {n : ℕ} → n < 65536 → (toZ w64 n ≡ pos n) × Within (pos 0) (pos 65535) (pos n)
 word h = (toZ-pos w64 (omega arith), omega (arith, ints))
 
-last : {k : ℕ} → SETTINGS ≤ k → k < ROWS → (((Unit {0} × (k ≡ SET-POINT → ⊥)) × (k ≡ CONTROL-WORD → ⊥)) × (k ≡ STATUS-WORD → ⊥)) × (k ≡ ERROR-CODE → ⊥) → k ≡ COMMAND
+last : {k : ℕ} → SET-POINT ≤ k → k < ROWS → (((Unit {0} × (k ≡ SET-POINT → ⊥)) × (k ≡ CONTROL-WORD → ⊥)) × (k ≡ STATUS-WORD → ⊥)) × (k ≡ ERROR-CODE → ⊥) → k ≡ COMMAND
 last h l none = omega arith
 
 pub other-value-spec : {M : Type 1} → statement M

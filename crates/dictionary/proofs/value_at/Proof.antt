@@ -15,7 +15,9 @@ value-at-spec =
     (tie.spec
     (λ c κs. search needs)
     (λ c κs. search needs)
+    (λ c κs. search needs)
     (λ c.
     let t = c .before .before in
     valued (rw (lt-ltb _ _ (t .if1 .taken))) (told (c .setting), setting-within (t .before .pre .sound) _ (t .if1 .taken)))
+    (λ c. rw (toZ-ofZ (ok-fits (c .map-value .ok))) (c .map-value .ensures))
     (λ c. rw (toZ-ofZ (ok-fits (c .other-value .ok))) (c .other-value .ensures)))

@@ -15,6 +15,7 @@ use Rattle.objects.specs.Table.{rowAt}
 use Rattle.objects.specs.declared.Row.{Row}
 use Rattle.coding.specs.Coding.{valueOf}
 use Rattle.dictionary.specs.Decide.{crosses, isLocked, verdictOn, writeOf}
+use Rattle.dictionary.proofs.Laws.{between}
 use Rattle.dictionary.proofs.write_value.Statement.{statement}
 use Rattle.dictionary.proofs.write_value.Tie as tie
 
@@ -106,9 +107,15 @@ write-value-spec =
     let z = sized (read k .before) in
     let r = ranged k in
     rw (z .0, z .1, r .0, r .1, crossed k ∙ l .before .if5 .left, locked l ∙ c .if6 .taken))
+    (λ c κs.
+    let k = c .before .before .before in
+    let r = ranged k in
+    rw (toZ-ofZ (value-fits (read k)), value (read k)) (record { range = between (r .0) (r .1) }))
+    (λ c κs. search needs)
     (λ c.
-    let l = c .before in
+    let e = c .before .before in
+    let l = e .before in
     let k = l .before .before in
     let z = sized (read k .before) in
     let r = ranged k in
-    rw (z .0, z .1, r .0, r .1, crossed k ∙ l .before .if5 .left, locked l ∙ c .if6 .left, toZ-ofZ (value-fits (read k)), value (read k))))
+    rw (z .0, z .1, r .0, r .1, crossed k ∙ l .before .if5 .left, locked l ∙ e .if6 .left, c .ruled .ensures, c .before .map-ruling .ensures, toZ-ofZ (value-fits (read k)), value (read k))))

@@ -13,9 +13,9 @@ returns c =
     let signed = c .before .before .before in
     let columns = signed .before .columns-at in
     let r = columns .result in
-    let low : toZ w64 (ofZ w64 (r .5)) ≡ r .5 = search needs in
-    let high : toZ w64 (ofZ w64 (r .6)) ≡ r .6 = search needs in
-    let fresh : toZ w64 (ofZ w64 (r .7)) ≡ r .7 = toZ-ofZ (ok-fits {z = r .7} (columns .ok .1 .1 .1 .1 .1 .1 .1 .1 .1 .0 .1)) in
+    let low : toZ w64 (ofZ w64 (r .6)) ≡ r .6 = search needs in
+    let high : toZ w64 (ofZ w64 (r .7)) ≡ r .7 = toZ-ofZ (ok-fits {z = r .7} (columns .ok .1 .1 .1 .1 .1 .1 .1 .1 .1 .0 .1)) in
+    let fresh : toZ w64 (ofZ w64 (r .8)) ≡ r .8 = toZ-ofZ (ok-fits {z = r .8} (columns .ok .1 .1 .1 .1 .1 .1 .1 .1 .1 .1 .0 .1)) in
     rw (low, high, fresh, signed .is-signed .ensures, c .before .is-choice .ensures, columns .ensures)
 
 pub row-at-spec : {M : Type 1} → statement M

@@ -1,0 +1,4 @@
+pub mod Maps
+pub mod Rules
+pub mod Sound
+pub mod Asked

@@ -1,0 +1,3 @@
+pub mod Receive
+pub mod Send
+pub mod Asked
