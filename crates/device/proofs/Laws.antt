@@ -39,15 +39,15 @@ pub device-parts : {d : Device} → Sound d → Parts d
 unfolding soundDevice
 device-parts {d} s =
     let first = isState (d .state) && errorFits (d .state) (d .error) in
-    let abcd = and-split (first && rests d && soundMaps (d .maps)) (soundBlock (d .block)) (s .sound) in
-    let abc = and-split (first && rests d) (soundMaps (d .maps)) (abcd .0) in
+    let abcd = and-split (first && rests d && soundBlock (d .block)) (soundMaps (d .maps)) (s .sound) in
+    let abc = and-split (first && rests d) (soundBlock (d .block)) (abcd .0) in
     let ab = and-split first (rests d) (abc .0) in
     let a = and-split (isState (d .state)) (errorFits (d .state) (d .error)) (ab .0) in
-    record { known = a .0; fits = a .1; at-rest = ab .1; mapped = abc .1; block = record { sound = abcd .1 } }
+    record { known = a .0; fits = a .1; at-rest = ab .1; mapped = abcd .1; block = record { sound = abc .1 } }
 
 pub device-from-parts : {d : Device} → Parts d → Sound d
 unfolding soundDevice
-device-from-parts p = record { sound = and-both (and-both (and-both (and-both (p .known) (p .fits)) (p .at-rest)) (p .mapped)) (p .block .sound) }
+device-from-parts p = record { sound = and-both (and-both (and-both (and-both (p .known) (p .fits)) (p .at-rest)) (p .block .sound)) (p .mapped) }
 
 pub block-of-sound : {d : Device} → Sound d → Blocks.Sound (d .block)
 block-of-sound s = device-parts s .block

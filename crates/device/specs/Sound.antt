@@ -21,9 +21,9 @@ errorFits state error = if state is FAULT then not (error is 0) else error is 0
 unfoldable pub rests : Device → Bool
 rests d = driven (d .state) || d .block .position =? pos 0
 
--- one of the four states, with a fitting error code, at rest where it must be, with sound maps and a sound block
+-- one of the four states, with a fitting error code, at rest where it must be, with a sound block and sound maps
 unfoldable pub soundDevice : Device → Bool
-soundDevice d = (isState (d .state) && errorFits (d .state) (d .error)) && rests d && soundMaps (d .maps) && soundBlock (d .block)
+soundDevice d = (isState (d .state) && errorFits (d .state) (d .error)) && rests d && soundBlock (d .block) && soundMaps (d .maps)
 
 -- what the functions of a device ask
 pub record Sound (d : Device) : Type 0 where

@@ -129,8 +129,8 @@ pub fn is_sound(device: Device) -> bool
     let maps = device.maps;
     state_fits(device.state, device.error)
         && rests(device)
-        && mapping::is_sound(maps)
         && block::is_sound(block)
+        && mapping::is_sound(maps)
 }
 
 // ---- control words and faults

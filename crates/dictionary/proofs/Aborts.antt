@@ -66,7 +66,7 @@ by-verdict P d place size x differ other written =
     (λ n. by-test P (ltZ (row .high) x) (λ h. other _ (range-other (row .choice) TOO-HIGH refl))
     (λ h. by-test P (ltZ x (row .low)) (λ l. other _ (range-other (row .choice) TOO-LOW refl))
     (λ l. by-test P (crosses d place x) (λ c. other LIMITS-CROSSED refl)
-    (λ c. by-test P (isLocked (row .lock) (d .state)) (λ k. other LOCKED-NOW refl) (λ k. by-ruling (mapRuling d place x)))))))
+    (λ c. by-test P (isLocked (row .lock) (d .state)) (λ k. other LOCKED-NOW refl) (λ k. by-ruling (mapRuling (d .maps) place x)))))))
   where
     by-ruling : (r : Ruling) → P (ruled r place x)
     by-ruling Accepted = written

@@ -122,7 +122,7 @@ pub between : {low high x : ℤ} → ltZ high x ≡ false → ltZ x low ≡ fals
 between {low} {high} {x} h l = omega (arith, ints)
 
 -- what passes every test before them is decided by the rules of a map
-pub ruled-last : (d : Device) (place size : ℕ) (x : ℤ) → rowAt place .writable ≡ true → rowAt place .size ≡ size → InRange place x → crosses d place x ≡ false → isLocked (rowAt place .lock) (d .state) ≡ false → verdictOn d place size x ≡ ruled (mapRuling d place x) place x
+pub ruled-last : (d : Device) (place size : ℕ) (x : ℤ) → rowAt place .writable ≡ true → rowAt place .size ≡ size → InRange place x → crosses d place x ≡ false → isLocked (rowAt place .lock) (d .state) ≡ false → verdictOn d place size x ≡ ruled (mapRuling (d .maps) place x) place x
 unfolding verdictOn
 ruled-last d place size x writable sized w uncrossed unlocked =
     let high : ltZ (rowAt place .high) x ≡ false = omega (arith, ints) in
@@ -143,7 +143,7 @@ accepted d place size x k v e =
     let f = passed _ _ _ k v (c .1) in
     let g = passed _ _ _ k v (f .1) in
     let h = passed _ _ _ k v (g .1) in
-    let w = let-through (mapRuling d place x) place x k v (h .1) in (
+    let w = let-through (mapRuling (d .maps) place x) place x k v (h .1) in (
       record {
         writable = not-false _ (a .0);
         sized = eqb-true (rowAt place .size) size (not-false _ (b .0));

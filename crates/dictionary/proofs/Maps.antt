@@ -96,10 +96,10 @@ module _ (d : Device) (place : ℕ) where
 -- ---- the rules that a write meets
 
 module _ (d : Device) {place : ℕ} (x : ℤ) where
-  pub receive-ruled : OfReceive place → mapRuling d place x ≡ Accepted → rulingOn RECEIVABLE (d .maps .receive) (place - RECEIVE-MAP) (natAbs x) ≡ Accepted
+  pub receive-ruled : OfReceive place → mapRuling (d .maps) place x ≡ Accepted → rulingOn RECEIVABLE (d .maps .receive) (place - RECEIVE-MAP) (natAbs x) ≡ Accepted
   unfolding mapRuling
   receive-ruled m e = rw (le-ltb place RECEIVE-MAP (m .0), lt-ltb place TRANSMIT-MAP (m .1)) at e
 
-  pub transmit-ruled : OfTransmit place → mapRuling d place x ≡ Accepted → rulingOn SENDABLE (d .maps .transmit) (place - TRANSMIT-MAP) (natAbs x) ≡ Accepted
+  pub transmit-ruled : OfTransmit place → mapRuling (d .maps) place x ≡ Accepted → rulingOn SENDABLE (d .maps .transmit) (place - TRANSMIT-MAP) (natAbs x) ≡ Accepted
   unfolding mapRuling
   transmit-ruled m e = rw (le-ltb place RECEIVE-MAP (past-settings m), le-ltb place TRANSMIT-MAP (m .0), lt-ltb place SET-POINT (m .1)) at e

@@ -18,7 +18,7 @@ pub record Accept (d : Device) (place size : ℕ) (x : ℤ) : Type 0 where
   pub range : InRange place x
   pub uncrossed : crosses d place x ≡ false
   pub unlocked : isLocked (rowAt place .lock) (d .state) ≡ false
-  pub unruled : mapRuling d place x ≡ Accepted
+  pub unruled : mapRuling (d .maps) place x ≡ Accepted
 
 -- a decided write of a value to a place, from a write of so many bytes of a number to an index and a sub-index
 pub record Origin (d : Device) (index sub size number place : ℕ) (x : ℤ) : Type 0 where

@@ -10,6 +10,7 @@ use Rattle.coding.specs.Coding.{valueOf, numberOf}
 use Rattle.block.specs.Block.{setting}
 use Rattle.mapping.specs.Maps.{RECEIVABLE, SENDABLE}
 use Rattle.mapping.specs.Rules.{rulingOn}
+use Rattle.mapping.specs.declared.Maps.{Maps}
 use Rattle.mapping.specs.declared.Ruling.{Ruling}
 use Rattle.mapping.specs.declared.Ruling.the-variants.{Accepted, WhileCounted, AboveFour, NotMappable}
 use Rattle.device.specs.States.{ACTIVE}
@@ -54,11 +55,11 @@ unfoldable pub isLocked : ℕ → ℕ → Bool
 isLocked lock state = lock is WHILE-ACTIVE && state is ACTIVE
 
 -- places 9 to 11: what the rules of a map say; elsewhere they allow all
-unfoldable pub mapRuling : Device → ℕ → ℤ → Ruling
-mapRuling d place x =
+unfoldable pub mapRuling : Maps → ℕ → ℤ → Ruling
+mapRuling maps place x =
     if place below RECEIVE-MAP then Accepted
-    else if place below TRANSMIT-MAP then rulingOn RECEIVABLE (d .maps .receive) (place - RECEIVE-MAP) (natAbs x)
-    else if place below SET-POINT then rulingOn SENDABLE (d .maps .transmit) (place - TRANSMIT-MAP) (natAbs x)
+    else if place below TRANSMIT-MAP then rulingOn RECEIVABLE (maps .receive) (place - RECEIVE-MAP) (natAbs x)
+    else if place below SET-POINT then rulingOn SENDABLE (maps .transmit) (place - TRANSMIT-MAP) (natAbs x)
     else Accepted
 
 -- the decision that a ruling leads to
@@ -78,7 +79,7 @@ verdictOn d place size x =
     else if x <? row .low then Abort (rangeCode (row .choice) TOO-LOW)
     else if crosses d place x then Abort LIMITS-CROSSED
     else if isLocked (row .lock) (d .state) then Abort LOCKED-NOW
-    else ruled (mapRuling d place x) place x
+    else ruled (mapRuling (d .maps) place x) place x
 
 -- what becomes of a write of so many bytes of a number; the object's type says what they stand for
 unfoldable pub writeOf : Device → ℕ → ℕ → Named → Decision

@@ -11,6 +11,7 @@ ghost use Rattle.dictionary.specs.Asked.{Placed, Other, Mapped, Looked, 
 ghost use Rattle.device.specs.Sound.{Sound};
 use device::ACTIVE;
 use device::Device;
+use mapping::Maps;
 use mapping::RECEIVABLE;
 use mapping::Ruling;
 use mapping::SENDABLE;
@@ -198,14 +199,13 @@ fn range_code(choice: bool, code: u32) -> u32
 }
 
 // What the rules of a map say of a write to a place; elsewhere they allow all.
-fn map_ruling(device: Device, place: usize, value: i64) -> Ruling
+fn map_ruling(maps: Maps, place: usize, value: i64) -> Ruling
     requires { ⌜ Ranged place value ⌝ }
-    ensures { λ r. ⌜ r ≡ mapRuling device place value ⌝ }
+    ensures { λ r. ⌜ r ≡ mapRuling maps place value ⌝ }
 {
     if place < RECEIVE_MAP {
         return Ruling::Accepted;
     }
-    let maps = device.maps;
     if place < TRANSMIT_MAP {
         let map = maps.receive;
         return mapping::ruling_on(RECEIVABLE, map, place - RECEIVE_MAP, value as u32);
@@ -253,7 +253,8 @@ fn write_value(device: Device, place: usize, row: Row, size: u8, number: u32) ->
     if is_locked(row.lock, device.state) {
         return Decision::Abort(LOCKED_NOW);
     }
-    ruled(map_ruling(device, place, value), place, value)
+    let maps = device.maps;
+    ruled(map_ruling(maps, place, value), place, value)
 }
 
 // What becomes of a write to an index and a sub-index. The row is looked up and handed on.

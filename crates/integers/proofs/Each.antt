@@ -41,9 +41,3 @@ pub each-all : (n : ℕ) (f : ℕ → Bool) → ((k : ℕ) → k < n → f k ≡
 unfolding each
 each-all zero f h = refl
 each-all (suc n) f h = and-both (each-all n f (λ k p. h k (omega arith))) (h n (omega arith))
-
--- the same test, number for number
-pub each-same : (n : ℕ) (f g : ℕ → Bool) → ((k : ℕ) → k < n → f k ≡ g k) → each n f ≡ each n g
-unfolding each
-each-same zero f g h = refl
-each-same (suc n) f g h = rw (each-same n f g (λ k l. h k (omega arith)), h n (omega arith))

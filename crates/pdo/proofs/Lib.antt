@@ -1,1 +1,2 @@
+pub mod Objects
 pub mod Laws

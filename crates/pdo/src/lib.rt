@@ -1,4 +1,4 @@
-// Process data: a received PDO acts as the SDO writes that its map names, and the PDO that is sent has the values that SDO reads give.
+// Process data: a received PDO acts as the SDO writes that its map names do, and the PDO that is sent has the values that SDO reads give.
 ghost use mathlib.Core.Path.{_≡_};
 ghost use lib.ListN.{drop};
 ghost use lib.Seq.{paste};
@@ -8,27 +8,38 @@ ghost use Rattle.dictionary.specs.Decide.{readDecision};
 ghost use Rattle.device.specs.Sound.{Sound};
 ghost use Rattle.pdo.specs.Receive.{acted, received};
 ghost use Rattle.pdo.specs.Send.{numberRead, sentBy, sentIn};
-ghost use Rattle.pdo.specs.Asked.{Acting, Putting, Sending};
+ghost use Rattle.pdo.specs.Asked.{Acting, Telling, Putting, Sending};
 use device::Device;
-use dictionary::Decision;
+use objects::HOLD_SET_POINT;
 
 // ---- receiving
 
-// An entry acts on the bytes from a place on: a write of as many as its length to its index and sub-index.
+// The entries by name, but for the last of each table.
+const CONTROL_WORD: u32 = 0x60400010;
+
+const SET_POINT: u32 = 0x63000110;
+
+const STATUS_WORD: u32 = 0x60410010;
+
+const ERROR_CODE: u32 = 0x604E0010;
+
+// How many bytes each object that may be mapped has.
+const TWO_BYTES: u8 = 2;
+
+// An entry acts on the bytes from a place on, as the SDO write of them to its object does. What may be received takes every value of two
+// bytes in every state, so that there is nothing to test.
 fn act(device: Device, entry: u32, pdo: &[u8], at: usize) -> Device
-    requires { ⌜ Acting device at ⌝ }
+    requires { ⌜ Acting device entry at ⌝ }
     ensures { λ r. ⌜ r ≡ acted entry (drop at (now (pdo .entry))) device ⌝ }
 {
-    let data = coding::four_of(
-        coding::byte_at(pdo, at),
-        coding::byte_at(pdo, at + 1),
-        coding::byte_at(pdo, at + 2),
-        coding::byte_at(pdo, at + 3),
-    );
-    let index = mapping::index_of(entry);
-    let sub = mapping::sub_of(entry);
-    let decision = dictionary::decide_write(device, index, sub, mapping::bytes_of(entry), data);
-    dictionary::carry_out(device, decision)
+    let number = coding::two_of(coding::byte_at(pdo, at), coding::byte_at(pdo, at + 1));
+    let value = coding::value_of(TWO_BYTES, true, number as u32);
+    let block = device.block;
+    match entry {
+        CONTROL_WORD => device::control(device, number),
+        SET_POINT => device::with_block(device, block::with_setpoint(block, value)),
+        _ => device::with_block(device, block::with_setting(block, HOLD_SET_POINT, value)),
+    }
 }
 
 // The entries of the receive map act in map order.
@@ -53,25 +64,24 @@ pub fn receive(device: Device, pdo: &[u8]) -> Device
 
 // ---- sending
 
-// The number that a read gives; 0 where it gives none.
-fn number_read(decision: Decision) -> u32
-    ensures { λ r. ⌜ r ≡ numberRead decision ⌝ }
+// The number that an SDO read of an entry's object gives.
+fn number_of(device: Device, entry: u32) -> u32
+    requires { ⌜ Telling device entry ⌝ }
+    ensures { λ r. ⌜ r ≡ numberRead (readDecision device (indexOf entry) (subOf entry)) ⌝ }
 {
-    match decision {
-        Decision::Read { size: _, number } => number,
-        Decision::Write { place: _, value: _ } => 0,
-        Decision::Abort(_) => 0,
+    match entry {
+        STATUS_WORD => device::status(device) as u32,
+        ERROR_CODE => device.error as u32,
+        _ => coding::number_of(TWO_BYTES, device::command(device)),
     }
 }
 
-// The four bytes of what a read of an entry's object gives.
+// Its four bytes.
 fn value_bytes(device: Device, entry: u32) -> [u8; 4]
-    requires { ⌜ Sound device ⌝ }
+    requires { ⌜ Telling device entry ⌝ }
     ensures { λ r. ⌜ r ≡ fourBytes (numberRead (readDecision device (indexOf entry) (subOf entry))) ⌝ }
 {
-    let index = mapping::index_of(entry);
-    let sub = mapping::sub_of(entry);
-    let number = number_read(dictionary::decide_read(device, index, sub));
+    let number = number_of(device, entry);
     [
         coding::byte_of(number, 0),
         coding::byte_of(number, 1),

@@ -33,7 +33,8 @@ use Rattle.pdo.specs.Receive.{received}
 use Rattle.pdo.proofs.Laws.{received-more}
 use Rattle.rainsheave.specs.Calls.{changed, sdoAnswer, controlAnswer, faultAnswer, tickAnswer, jumpAnswer, receiveAnswer}
 use Rattle.rainsheave.specs.declared.Change.{Change}
-use Rattle.rainsheave.proofs.Promises.{by-sdo, sdo-unchanged, sdo-sound, control-sound, fault-sound, tick-sound, jump-sound, receive-sound, word-received}
+use Rattle.rainsheave.proofs.Promises.{by-sdo, sdo-unchanged, sdo-sound, control-sound, fault-sound, tick-sound, jump-sound, receive-sound}
+use Rattle.pdo.proofs.Objects.{word-acted}
 use Rattle.rainsheave.proofs.Images.{load-sound, load-refused-unchanged}
 use Rattle.promises.specs.Calls.{Call, fresh, sdo, control, fault, tick, jump, query, receive, send, store, load, search, target, asked, after, number, told}
 use Rattle.promises.specs.History.{afterAll, isWritten, wordsAlone, alters, altersNothing, Histories}
@@ -142,7 +143,7 @@ module _ (d : Device) where
       let next : n + 1 ≡ suc n = omega arith in
       let more = rw next at (received-more (m .entries) n bytes d (omega (arith, p .long, p .few))) in
       let word : entryOf m n ≡ 0x60400010 = eqb-true _ _ (each-at (m .count) (λ k. entryOf m k is 0x60400010) n w h) in
-      rw (more, word, word-received) (then-same (controlled-keeps _ _) (words-keep s bytes w n (omega arith)))
+      rw (more, word, word-acted) (then-same (controlled-keeps _ _) (words-keep s bytes w n (omega arith)))
 
   receive-keeps : (pdo : List ℕ) → alters (receive pdo) d ≡ false → SameSettings (after (receive pdo) d) d
   unfolding receiveAnswer

@@ -14,7 +14,7 @@ use Rattle.objects.specs.Places.{UPPER-LIMIT, LOWER-LIMIT, SETTINGS, RECEIVE-MA
 use Rattle.objects.specs.Table.{objects, isSigned, rowAt, InRange}
 use Rattle.objects.specs.Lookup.{placeFrom, placeOf, entryAt}
 use Rattle.coding.specs.Bytes.{byteOf, fourOf, fourBytes}
-use Rattle.coding.specs.Coding.{span, inSpan, valueOf, numberOf}
+use Rattle.coding.specs.Coding.{span, inSpan, valueOf}
 use Rattle.coding.proofs.Bytes.{four-back}
 use Rattle.mapping.specs.Maps.{ENTRIES, standsAt, entryOf, withAt, freshMap, freshMaps, withReceive, withTransmit}
 use Rattle.mapping.specs.Rules.{rulingOn}
@@ -52,6 +52,7 @@ use Rattle.promises.proofs.Requests.{request, frame-answered}
 use Rattle.promises.proofs.Demand2.{read-replied, read-alike}
 use Rattle.promises.proofs.History.{all-sound}
 use mathlib.Core.Logic.{_≢_}
+use Rattle.pdo.proofs.Objects.{positive-number}
 use Rattle.mapping.proofs.Laws.{at-written}
 use Rattle.dictionary.proofs.Written.{others-are-kept}
 use Rattle.objects.specs.Places.{ROWS}
@@ -107,7 +108,7 @@ in-range sending k n h l = let e : (TRANSMIT-MAP + k) - TRANSMIT-MAP ≡ k = ome
 -- ---- a write comes to the map's own rules
 
 -- those of the sub-index
-ruling-of : (w : Direction) (d : Device) (k n : ℕ) → k ≤ ENTRIES → mapRuling d (mapPlace w + k) (pos n) ≡ rulingOn (mappable w) (mapOf w d) k n
+ruling-of : (w : Direction) (d : Device) (k n : ℕ) → k ≤ ENTRIES → mapRuling (d .maps) (mapPlace w + k) (pos n) ≡ rulingOn (mappable w) (mapOf w d) k n
 unfolding mapRuling
 ruling-of receiving d k n h =
     let e : (RECEIVE-MAP + k) - RECEIVE-MAP ≡ k = omega arith in
@@ -361,10 +362,6 @@ sub-indexes w k = by-less 4 k (λ l. rw (lt-ltb 4 k l) (missing w k l)) (λ l. r
 value-of : (w : Direction) (d : Device) (k : ℕ) → k ≤ ENTRIES → valueAt d (mapPlace w + k) ≡ pos (standsAt (mapOf w d) k)
 value-of receiving d k h = let e : (RECEIVE-MAP + k) - RECEIVE-MAP ≡ k = omega arith in value-of-receive d (RECEIVE-MAP + k) (omega arith, omega arith) ∙ rw e
 value-of sending d k h = let e : (TRANSMIT-MAP + k) - TRANSMIT-MAP ≡ k = omega arith in value-of-transmit d (TRANSMIT-MAP + k) (omega arith, omega arith) ∙ rw e
-
-positive-number : (size n : ℕ) → numberOf size (pos n) ≡ n
-unfolding numberOf
-positive-number size n = rw (le-ltb n 0 (omega arith))
 
 pub read : (w : Direction) (d : Device) (k : ℕ) (c : Data) (r : List ℕ) → Sound d → k ≤ 4 → 8 ≤ length r → sdoRoom d (reading (mapIndex w) k c) r ≡ frame (if k is 0 then 0x4F else 0x43) (mapIndex w) k (fourBytes (standsAt (mapOf w d) k)) ++ drop 8 r
 unfolding repliedIn readDecision readOf readReply frameOf

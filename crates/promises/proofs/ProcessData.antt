@@ -2,37 +2,28 @@
 use mathlib.Core.Bool.{Bool, true, false, not}
 use mathlib.Core.List.{List, [], _∷_, _++_}
 use mathlib.Core.Path.{_≡_, refl, sym, ap, _∙_}
-use Prim.Native.Nat.{ℕ, zero, suc, _+_, _*_, _%_, _≤_, _<_}
+use Prim.Native.Nat.{ℕ, zero, suc, _+_, _*_, _≤_, _<_}
 use native.Mathlib.Omega.{arith}
 use borrow.Author.Tests.{le-ltb}
 use lib.Dec.{ltb}
-use lib.IntN.{pos}
 use lib.ListN.{length, getD, take, drop, List·getD-append}
 use Rattle.integers.specs.Words.{_is_, _among_}
 use Rattle.integers.proofs.Cases.{by-cases, by-test}
-use Rattle.integers.proofs.Linear.{ints}
-use Rattle.objects.specs.Places.{HOLD-SET-POINT, SET-POINT, CONTROL-WORD, STATUS-WORD, ERROR-CODE, COMMAND}
-use Rattle.objects.specs.Table.{objects, isSigned}
+use Rattle.objects.specs.Table.{objects}
 use Rattle.objects.specs.Lookup.{placeFrom, placeOf, recordEntry, entryAt}
 use Rattle.coding.specs.Bytes.{byteAt, byteOf, fourOf, fourBytes}
-use Rattle.coding.specs.Coding.{span, valueOf, numberOf}
-use Rattle.coding.proofs.Laws.{number-below, value-typed, low-bytes}
-use Rattle.coding.proofs.Rows.{row-held}
+use Rattle.coding.specs.Coding.{valueOf}
 use Rattle.block.specs.Sound.{soundSettings}
 use Rattle.mapping.specs.Maps.{bytesOf, entryOf, lengthOf, freshMap, freshMaps, counted, mapLength}
 use Rattle.mapping.specs.Sound.{soundMaps}
 use Rattle.mapping.specs.declared.Maps.{Maps}
 use Rattle.device.specs.Device.{freshDevice, withMaps}
 use Rattle.device.specs.States.{DISABLED}
-use Rattle.device.specs.Queries.{statusOf, deviceCommand}
 use Rattle.device.specs.Sound.{soundDevice, Sound}
 use Rattle.device.specs.declared.Device.{Device}
-use Rattle.device.proofs.Laws.{device-parts, with-maps-sound, status-most, receive-parts, transmit-parts}
-use Rattle.dictionary.specs.Named.{value, named}
-use Rattle.dictionary.specs.Values.{valueAt, writtenTo}
-use Rattle.dictionary.specs.Decide.{crosses, isLocked, mapRuling, readOf, readDecision, writeOf, writeDecision}
-use Rattle.dictionary.specs.declared.Decision.the-variants.{Read, Write}
-use Rattle.dictionary.proofs.Laws.{device-command-within, is-accepted}
+use Rattle.device.proofs.Laws.{device-parts, with-maps-sound, receive-parts, transmit-parts}
+use Rattle.dictionary.specs.Named.{named}
+use Rattle.dictionary.specs.Values.{writtenTo}
 use Rattle.sdo.specs.Frames.{FRAME, asksOf, frameOf, readReply, repliedIn}
 use Rattle.sdo.specs.Serve.{answer, decisionOn, served}
 use Rattle.sdo.specs.declared.Answer.{Answer}
@@ -52,6 +43,7 @@ use Rattle.promises.specs.Demand2.{Data, list, frame, reading}
 use Rattle.promises.proofs.Requests.{request, frame-answered}
 use Rattle.promises.proofs.Demand2.{read-replied}
 use mathlib.Core.Logic.{_≢_}
+use Rattle.pdo.proofs.Objects.{word-taken, set-point-taken, hold-set-point-taken, low-two, ReadsTwo, reads-two}
 use Rattle.mapping.proofs.Sound.{one-of-three, received-of-two, sent-of-two, counted-mapped}
 use Rattle.device.proofs.Kept.{controlled-keeps}
 use Rattle.rainsheave.specs.Calls.{numberOfReport}
@@ -65,33 +57,6 @@ use Rattle.promises.proofs.History.{histories}
 use Rattle.promises.proofs.MapWrites.{entry-written, count-written, sub-indexes, read, read-back, others, made}
 
 -- ---- a received PDO
-
--- each object that may be received takes every value of two bytes, in every state
-module _ (d : Device) (n : ℕ) where
-  word-taken : writeDecision d 0x6040 0 2 n ≡ Write CONTROL-WORD (valueOf 2 false n)
-  unfolding writeDecision named placeOf placeFrom entryAt recordEntry objects writeOf isSigned crosses isLocked mapRuling span
-  word-taken =
-      is-accepted {d = d} {place = CONTROL-WORD} {size = 2} {x = valueOf 2 false n}
-      (record { writable = refl; sized = refl; range = value-typed 2 false n .range; uncrossed = refl; unlocked = refl; unruled = refl })
-
-  set-point-taken : writeDecision d 0x6300 1 2 n ≡ Write SET-POINT (valueOf 2 true n)
-  unfolding writeDecision named placeOf placeFrom entryAt recordEntry objects writeOf isSigned crosses isLocked mapRuling span
-  set-point-taken =
-      is-accepted {d = d} {place = SET-POINT} {size = 2} {x = valueOf 2 true n}
-      (record { writable = refl; sized = refl; range = value-typed 2 true n .range; uncrossed = refl; unlocked = refl; unruled = refl })
-
-  hold-set-point-taken : writeDecision d 0x6314 1 2 n ≡ Write HOLD-SET-POINT (valueOf 2 true n)
-  unfolding writeDecision named placeOf placeFrom entryAt recordEntry objects writeOf isSigned crosses isLocked mapRuling span
-  hold-set-point-taken =
-      is-accepted {d = d} {place = HOLD-SET-POINT} {size = 2} {x = valueOf 2 true n}
-      (record { writable = refl; sized = refl; range = value-typed 2 true n .range; uncrossed = refl; unlocked = refl; unruled = refl })
-
--- of which the low two bytes count
-low-two : (signed : Bool) (a b c e : ℕ) → valueOf 2 signed (fourOf a b c e) ≡ valueOf 2 signed (fourOf a b 0 0)
-unfolding span
-low-two signed a b c e =
-    let same : fourOf a b c e % 65536 ≡ fourOf a b 0 0 % 65536 = omega arith in
-    sym (low-bytes 2 signed (fourOf a b c e)) ∙ ap (valueOf 2 signed) same ∙ low-bytes 2 signed (fourOf a b 0 0)
 
 -- the data bytes of an entry's write
 abbrev twoBytes : List ℕ → Data
@@ -187,28 +152,6 @@ unsent d room =
 told : (d : Device) (room : ℕ) → Sound d → pdoLength (d .maps .transmit) ≤ room → sendAnswer d room ≡ pdoSent Done (pdoLength (d .maps .transmit))
 unfolding sendAnswer
 told d room s h = rw (s .sound, transmit-length s, le-ltb room (pdoLength (d .maps .transmit)) h)
-
--- what a read of an entry gives: two bytes of a number
-record ReadsTwo (d : Device) (entry : ℕ) : Type 0 where
-  number : ℕ
-  decision : readDecision d (index entry) (sub entry) ≡ Read 2 number
-  small : number < 65536
-
-module _ (d : Device) (e : d .error < 65536) where
-  reads-status : ReadsTwo d 0x60410010
-  unfolding readDecision named placeOf placeFrom entryAt recordEntry objects readOf valueAt span
-  reads-status = let most = status-most d in record { number = numberOf 2 (pos (statusOf d)); decision = refl; small = number-below (row-held STATUS-WORD {value = pos (statusOf d)} (omega arith) (omega (arith, ints))) }
-
-  reads-error : ReadsTwo d 0x604E0010
-  unfolding readDecision named placeOf placeFrom entryAt recordEntry objects readOf valueAt span
-  reads-error = record { number = numberOf 2 (pos (d .error)); decision = refl; small = number-below (row-held ERROR-CODE {value = pos (d .error)} (omega arith) (omega (arith, ints))) }
-
-  reads-command : ReadsTwo d 0x63100110
-  unfolding readDecision named placeOf placeFrom entryAt recordEntry objects readOf valueAt span
-  reads-command = record { number = numberOf 2 (deviceCommand d); decision = refl; small = number-below (row-held COMMAND {value = deviceCommand d} (omega arith) (device-command-within d)) }
-
-  reads-two : (entry : ℕ) → entry among mappable sending ≡ true → ReadsTwo d entry
-  reads-two entry h = one-of-three 0x60410010 0x604E0010 0x63100110 entry h (λ q. rw q reads-status) (λ q. rw q reads-error) (λ q. rw q reads-command)
 
 -- the reply to that read
 two-replied : {d : Device} → Sound d → {entry : ℕ} (t : ReadsTwo d entry) (c : Data) (r : List ℕ) → FRAME ≤ length r → sdoRoom d (reading (index entry) (sub entry) c) r ≡ frame 0x4B (index entry) (sub entry) (byteOf (t .number) 0 ∷ byteOf (t .number) 1 ∷ 0 ∷ 0 ∷ []) ++ drop FRAME r

@@ -88,7 +88,7 @@ pub record Allowed (d : Device) (place : ℕ) (x : ℤ) (b : Data) : Type 0 wher
   pub range : InRange place x
   pub uncrossed : crosses d place x ≡ false
   pub unlocked : (isLockable (rowAt place .index) && d .state is ACTIVE) ≡ false
-  pub unruled : mapRuling d place x ≡ Ruling.Accepted
+  pub unruled : mapRuling (d .maps) place x ≡ Ruling.Accepted
   pub stands : take (rowAt place .size) (list b) ≡ take (rowAt place .size) (valueData place x)
 
 -- the device after it

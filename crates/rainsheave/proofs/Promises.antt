@@ -32,7 +32,6 @@ use Rattle.sdo.specs.declared.Request.{Request}
 use Rattle.sdo.specs.declared.Outcome.the-variants.{Written, Refused}
 use Rattle.sdo.specs.declared.Answer.{Answer}
 use Rattle.sdo.proofs.Promises.{not-written-unchanged, served-sound}
-use Rattle.pdo.specs.Receive.{dataIn, acted}
 use Rattle.pdo.proofs.Laws.{received-sound}
 use Rattle.rainsheave.specs.Numbers.{UNSOUND, WRONG-LENGTH, NO-ROOM, NO-REPLY-DUE}
 use Rattle.rainsheave.specs.Calls.{isClientAbort, sdoAnswer, sdoRoom, numberOfReport, changed, controlAnswer, faultAnswer, tickAnswer, jumpAnswer, receiveAnswer}
@@ -101,11 +100,6 @@ word-accepted : (d : Device) (word : ℕ) → word < 65536 → verdictOn d CONTR
 unfolding objects crosses isLocked mapRuling
 word-accepted d word h =
     is-accepted {d = d} {place = CONTROL-WORD} {size = 2} {x = pos word} (record { writable = refl; sized = refl; range = omega (arith, ints); uncrossed = refl; unlocked = refl; unruled = refl })
-
--- so is a word that a PDO brings
-pub word-received : (d : Device) (bytes : List ℕ) → acted 0x60400010 bytes d ≡ controlled (dataIn bytes % 65536) d
-unfolding acted writeDecision named placeOf placeFrom entryAt objects writeOf isSigned valueOf span inSpan writtenTo
-word-received d bytes = rw (word-accepted d (dataIn bytes % 65536) (omega arith))
 
 pub control-is-a-write : (d : Device) (word : ℕ) → word < 65536 → served d (writing word) ≡ answer Written (controlled word d)
 unfolding served decisionOn asksOf writeDecision named placeOf placeFrom entryAt objects writeOf isSigned valueOf span inSpan writtenTo

@@ -3,7 +3,7 @@ use mathlib.Core.Path.{_≡_, sym, _∙_}
 use mathlib.Core.Bool.{Bool, _&&_}
 use mathlib.Core.Logic.{⊎-elim}
 use borrow.Author.Needs.{needs}
-use Rattle.mapping.specs.Sound.{soundMaps}
+use Rattle.block.specs.Sound.{soundBlock}
 use Rattle.device.specs.Sound.{isState, errorFits, rests, soundDevice}
 use Rattle.device.specs.declared.Device.{Device}
 use Rattle.device.proofs.is_sound.Statement.{statement}
@@ -20,7 +20,7 @@ first c =
     (λ w. w .1 ∙ w .0 .left ∙ simp (sym (state .ensures) ∙ w .0 .left))
     (c .if1 .came)
 
-second : (c : tie.Joined2) → let d = c .before .before .before .before .before .args .device in c .if2 .if3 ≡ (firstTests d && soundMaps (d .maps))
+second : (c : tie.Joined2) → let d = c .before .before .before .before .before .args .device in c .if2 .if3 ≡ (firstTests d && soundBlock (d .block))
 second c =
     ⊎-elim
     (λ w. w .2 ∙ w .1 .ensures ∙ simp (sym (first (c .before)) ∙ w .0 .taken))

@@ -108,12 +108,12 @@ write-value-spec =
     let r = ranged k in
     rw (z .0, z .1, r .0, r .1, crossed k ∙ l .before .if5 .left, locked l ∙ c .if6 .taken))
     (λ c κs.
-    let k = c .before .before .before in
+    let k = c .before .before .before .before in
     let r = ranged k in
     rw (toZ-ofZ (value-fits (read k)), value (read k)) (record { range = between (r .0) (r .1) }))
     (λ c κs. search needs)
     (λ c.
-    let e = c .before .before in
+    let e = c .before .before .before in
     let l = e .before in
     let k = l .before .before in
     let z = sized (read k .before) in

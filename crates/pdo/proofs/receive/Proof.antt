@@ -3,8 +3,11 @@ use mathlib.Core.Path.{_≡_, refl, sym, _∙_}
 use Prim.Native.Nat.{_-_, _*_, _≤_, _<_}
 use native.Mathlib.Omega.{arith}
 use borrow.Author.Needs.{needs}
-use lib.ListN.{length, take}
-use Rattle.mapping.specs.Maps.{ENTRIES, lengthOf}
+use mathlib.Core.Bool.{true}
+use lib.ListN.{length, getD, take}
+use Rattle.integers.specs.Words.{_among_}
+use Rattle.mapping.proofs.Sound.{counted-mapped}
+use Rattle.mapping.specs.Maps.{ENTRIES, RECEIVABLE, lengthOf}
 use Rattle.mapping.proofs.Laws.{length-more}
 use Rattle.device.specs.Sound.{Sound}
 use Rattle.device.proofs.Laws.{receive-parts}
@@ -26,6 +29,9 @@ few s = receive-parts (s .pre) .few
 long : (s : tie.Start Inv-loop μ-loop) → length (s .args .device .maps .receive .entries) ≡ ENTRIES
 long s = receive-parts (s .pre) .long
 
+mapped : (l : tie.At-loop Inv-loop μ-loop) → let m = l .before .before .before .before .before .args .device .maps .receive in l .loop .k < m .count → getD (m .entries) (l .loop .k) 0 among RECEIVABLE ≡ true
+mapped l h = counted-mapped RECEIVABLE (receive-parts (l .before .before .before .before .before .pre)) (l .loop .k) h
+
 pub receive-spec : {M : Type 1} → statement M
 unfolding received
 receive-spec =
@@ -37,7 +43,7 @@ receive-spec =
     (λ c. search needs)
     (λ c. search needs)
     (λ c. search needs)
-    (λ c κs. let l = c .before .before in record { sound = l .loop .inv .4; near = omega arith })
+    (λ c κs. let l = c .before .before in record { sound = l .loop .inv .4; mapped = mapped l (c .if1 .taken); near = omega arith })
     (λ c κs. search needs)
     (λ c. search needs)
     (λ c. search needs)

@@ -42,7 +42,7 @@ send-spec =
     let l = c .before .before .before in
     let s = l .before .before .before .before .before in
     let size = two s {k = l .loop .k} (c .before .if1 .taken) in
-    record { sound = s .pre .sound; four = omega (arith, size); fits = omega (arith, size, s .pre .fits, two-each SENDABLE sent-of-two (parts s), l .loop .inv .4) })
+    record { telling = record { sound = s .pre .sound; mapped = counted-mapped SENDABLE (parts s) (l .loop .k) (c .before .if1 .taken) }; four = omega (arith, size); fits = omega (arith, size, s .pre .fits, two-each SENDABLE sent-of-two (parts s), l .loop .inv .4) })
     (λ c κs. search needs)
     (λ c. search needs)
     (λ c. search needs)
