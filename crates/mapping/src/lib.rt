@@ -1,7 +1,7 @@
 // The maps of process data, after wish 2 of document 02: what may be mapped, what becomes of a write, what makes a map sound.
 ghost use mathlib.Core.Path.{_≡_};
 ghost use Rattle.integers.specs.Words.{_among_};
-ghost use Rattle.mapping.specs.Maps.{indexOf, subOf, bytesOf, standsAt, withAt, mapLength, freshMaps, withReceive, withTransmit};
+ghost use Rattle.mapping.specs.Maps.{bytesOf, standsAt, withAt, mapLength, freshMaps, withReceive, withTransmit};
 ghost use Rattle.mapping.specs.Rules.{eachMapped, isRight, rulingOn};
 ghost use Rattle.mapping.specs.Sound.{mayStand, soundMap, soundMaps};
 ghost use Rattle.mapping.specs.Asked.{Few, Counting, Fitting};
@@ -35,18 +35,6 @@ pub const RECEIVABLE: [u32; 3] = [0x60400010, 0x63000110, 0x63140110];
 pub const SENDABLE: [u32; 3] = [0x60410010, 0x604E0010, 0x63100110];
 
 // ---- entries
-
-pub fn index_of(entry: u32) -> u16
-    ensures { λ r. ⌜ r ≡ indexOf entry ⌝ }
-{
-    (entry / 65536) as u16
-}
-
-pub fn sub_of(entry: u32) -> u8
-    ensures { λ r. ⌜ r ≡ subOf entry ⌝ }
-{
-    (entry / 256 % 256) as u8
-}
 
 // The length of an entry, which is in bits, in bytes.
 pub fn bytes_of(entry: u32) -> u8
