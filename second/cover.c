@@ -1,4 +1,5 @@
-/* `second cover`: what of document 01 and wishes 1 and 2 an event file has reached. */
+/* `second cover`: what of document 01 and wishes 1 to 3 of document 02 an event file has
+ * reached. */
 #include <inttypes.h>
 #include <stdarg.h>
 #include <stdio.h>
@@ -19,15 +20,7 @@ enum { ABORT_CODES = sizeof abort_codes / sizeof abort_codes[0] };
 
 const char *const state_names[STATES] = {"DISABLED", "HOLD", "ACTIVE", "FAULT"};
 
-/* One tick's way. A crossing is from one side of zero to the other: at once in
- * type 0, by the halt at zero in types 1 to 3. */
-enum way { UP_POSITIVE, DOWN_POSITIVE, UP_NEGATIVE, DOWN_NEGATIVE, CROSS_DOWN, CROSS_UP, WAYS };
-static const char *const way_names[WAYS] = {
-    "up-on-positive-side",   "down-on-positive-side", "up-on-negative-side",
-    "down-on-negative-side", "positive-to-negative",  "negative-to-positive",
-};
-enum { RAMP_TYPES = 4, DEAD_BAND_TYPES = 2 };
-
+enum { DEAD_BAND_TYPES = 2 };
 enum band { BAND_POSITIVE, BAND_NEGATIVE, BAND_INSIDE, BANDS };
 static const char *const band_names[BANDS] = {"positive", "negative", "in-band"};
 
@@ -48,7 +41,6 @@ static struct {
     uint64_t move[STATES][STATES]; /* by a control word; equal states: no move */
     uint64_t fault[STATES];
     uint64_t held_reset;
-    uint64_t ramp[RAMP_TYPES][WAYS];
     uint64_t band[DEAD_BAND_TYPES][BANDS];
     uint64_t write[OBJECTS];
     uint64_t read[OBJECTS][SUBS];
@@ -85,34 +77,6 @@ static void count_control(const struct seen *seen, uint16_t word)
     else
         counts.move[from][to]++;
     follow_reset_edge(seen, word);
-}
-
-static void count_tick(const struct device *before, const struct device *after)
-{
-    int64_t from = before->position;
-    int64_t to = after->position;
-    int64_t target = device_query(before, QUERY_TARGET).value;
-    bool crosses = (from > 0 && target < 0) || (from < 0 && target > 0);
-    bool across = before->setting[RAMP_TYPE] == 0 || to == 0;
-    uint64_t *ways = counts.ramp[before->setting[RAMP_TYPE]];
-    if (from == to || before->state == DISABLED || before->state == FAULT)
-        return;
-    if (crosses && across)
-        ways[from > 0 ? CROSS_DOWN : CROSS_UP]++;
-    else if (from > 0 || to > 0)
-        ways[to > from ? UP_POSITIVE : DOWN_POSITIVE]++;
-    else
-        ways[to > from ? UP_NEGATIVE : DOWN_NEGATIVE]++;
-}
-
-static void count_ticks(const struct seen *seen, uint32_t ticks)
-{
-    struct device device = *seen->before;
-    for (uint32_t i = 0; i < ticks; i++) {
-        struct device before = device;
-        device_tick(&device);
-        count_tick(&before, &device);
-    }
 }
 
 /* The command that was told; its result is 0 exactly within the band. */
@@ -206,6 +170,7 @@ static void count_event(const struct seen *seen)
         counts.number[seen->outcome->number]++;
     count_image_event(seen);
     count_pdo_event(seen);
+    count_ramp_event(seen);
     count_refusals(seen);
     switch (record->kind) {
     case EVENT_FRESH:
@@ -222,12 +187,6 @@ static void count_event(const struct seen *seen)
     case EVENT_FAULT:
         if (seen->outcome->number == DONE)
             counts.fault[seen->before->state]++;
-        break;
-    case EVENT_TICK:
-        count_ticks(seen, 1);
-        break;
-    case EVENT_TICKS:
-        count_ticks(seen, record->word);
         break;
     case EVENT_QUERY:
         count_command(seen->before, seen->outcome->query[QUERY_COMMAND].value);
@@ -284,11 +243,8 @@ static void list_transitions(void)
         list_item(counts.move[state][state], "word-moves-nothing-in-%s", state_names[state]);
 }
 
-static void list_ramps_and_bands(void)
+static void list_bands(void)
 {
-    for (size_t type = 0; type < RAMP_TYPES; type++)
-        for (size_t way = 0; way < WAYS; way++)
-            list_item(counts.ramp[type][way], "ramp-%d-%s", (int)type, way_names[way]);
     for (size_t type = 0; type < DEAD_BAND_TYPES; type++)
         for (size_t band = 0; band < BANDS; band++)
             list_item(counts.band[type][band], "dead-band-%d-%s", (int)type, band_names[band]);
@@ -309,7 +265,8 @@ static void list_all(void)
 {
     list_answers();
     list_transitions();
-    list_ramps_and_bands();
+    list_ramp_items();
+    list_bands();
     list_entries();
     list_length_items();
     list_map_items();

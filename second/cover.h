@@ -36,6 +36,10 @@ void list_map_items(void);
 void count_pdo_event(const struct seen *seen);
 void list_pdo_items(void);
 
+/* Ramps: ticks, jumps and the ticks to go that were told. */
+void count_ramp_event(const struct seen *seen);
+void list_ramp_items(void);
+
 /* Numbers handed back and soundness. */
 void count_refusals(const struct seen *seen);
 void list_refusal_items(void);

@@ -85,8 +85,14 @@ static void scene_limits(struct maker *m)
     emit_setting(m, upper ? UPPER_LIMIT : LOWER_LIMIT, other + offset);
 }
 
-/* In turn: each setting and the set point at both ends of its range. The other
- * limit makes way first. */
+/* Whether its type has values beyond both ends of the setting's range. */
+static bool has_both_beyond(uint32_t place)
+{
+    return place == RAMP_TYPE || (place >= DEAD_BAND_TYPE && place <= DEAD_BAND_THRESHOLD);
+}
+
+/* In turn: each setting and the set point at both ends of its range, some after one beyond
+ * that end. The other limit makes way first. */
 static void scene_range_end(struct maker *m)
 {
     enum { ENDS = 2 };
@@ -102,6 +108,8 @@ static void scene_range_end(struct maker *m)
         emit_setting(m, LOWER_LIMIT, end);
     if (place == LOWER_LIMIT && top)
         emit_setting(m, UPPER_LIMIT, end);
+    if (has_both_beyond(place))
+        emit_write(m, object, top ? end + 1 : end - 1);
     emit_write(m, object, end);
 }
 
@@ -274,9 +282,8 @@ static uint32_t pick_jump(struct maker *m)
 
 static void scene_jump(struct maker *m)
 {
-    struct record record = make(m, EVENT_JUMP);
-    record.number = pick_jump(m);
-    emit(m, &record);
+    uint32_t ticks = pick_jump(m);
+    emit_jump(m, ticks);
 }
 
 /* Runs of ticks stay short but for a rare long one. */
@@ -323,10 +330,7 @@ void scene_target(struct maker *m)
     bool other_side = (m->run.device.position > 0) == (ir > 0);
     if (other_side && ir > INT16_MIN && one_in(m, 2))
         ir = -ir;
-    if (m->run.device.state == ACTIVE)
-        emit_write(m, object_find(0x6300), ir);
-    else
-        emit_setting(m, HOLD_SET_POINT, ir);
+    emit_target(m, ir);
     if (moving_state(m))
         move_on(m);
 }
@@ -426,7 +430,7 @@ static const struct {
     {120, scene_sweep_entries},
     {40, scene_write_size},
     {15, scene_wrong_length},
-    {95, scene_read},
+    {70, scene_read},
     {15, scene_read_command},
     {50, scene_any_command},
     {30, scene_unknown_index},
@@ -438,13 +442,15 @@ static const struct {
     {10, scene_fault},
     {10, scene_reset},
     {2, scene_fresh},
-    /* ramps; a scene_ramp is some twenty events */
+    /* ramps; a scene_ramp is some twenty events, a scene_across_zero some thirty */
     {5, scene_scaling},
     {50, scene_jump},
     {20, scene_ticks},
     {40, scene_tick},
     {40, scene_target},
-    {45, scene_ramp},
+    {24, scene_ramp},
+    {1, scene_at_once},
+    {12, scene_across_zero},
     {10, scene_locked},
     {8, scene_dead_band},
     /* image */

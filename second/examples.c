@@ -1,5 +1,5 @@
-/* `second examples`: the worked examples of document 01, and some of wish 2 of document 02, as
- * events, by hand. */
+/* `second examples`: the worked examples of document 01, and some of wishes 2 and 3 of document
+ * 02, as events, by hand. */
 #include <stdio.h>
 #include <string.h>
 
@@ -145,26 +145,60 @@ static void example_times(void)
     tick(2); /* 298, 596 */
 }
 
-static void example_two_times(void)
+enum { TIME_OF_16_IR = 1024, TIME_OF_32_IR = 512 }; /* a step of 16 ir, of 32 ir */
+
+/* From 100 to -50 ir by ticks, and then by jumps: every n from the same start. */
+static void go_from_100_to_minus_50(int64_t type, int ticks)
 {
-    enum { TIME_OF_16_IR = 1024, TIME_OF_32_IR = 512, TICKS = 8 };
-    fresh_in_hold();
     place_at(100);
-    set(0x6331, TIME_OF_16_IR);
-    set(0x6334, TIME_OF_32_IR);
-    set(0x6330, 2);
+    set(0x6330, type);
     set(0x6314, -50);
-    query(); /* 8 ticks to go */
-    tick(TICKS);
+    query();
+    tick(ticks);
     query(); /* at -50 ir */
 
-    /* The same way by jumps: every n from the same start. */
-    for (uint32_t n = 0; n <= TICKS + 1; n++) {
+    for (int n = 0; n <= ticks + 1; n++) {
         place_at(100);
-        set(0x6330, 2);
+        set(0x6330, type);
         set(0x6314, -50);
-        jump(n);
+        jump((uint32_t)n);
     }
+}
+
+/* 8 ticks to go: 68, 36, 4, 0, -16, -32, -48, -50. */
+static void example_two_times(void)
+{
+    fresh_in_hold();
+    set(0x6331, TIME_OF_16_IR);
+    set(0x6334, TIME_OF_32_IR);
+    go_from_100_to_minus_50(2, 8);
+}
+
+/* No halt at zero in type 1. 5 ticks to go: 68, 36, 4, -28, -50. */
+static void example_one_time(void)
+{
+    fresh_in_hold();
+    set(0x6331, TIME_OF_32_IR);
+    go_from_100_to_minus_50(1, 5);
+}
+
+/* The most ticks to go, from end to end in both directions. */
+static void example_end_to_end(int64_t type, uint32_t ticks)
+{
+    fresh_in_hold();
+    place_at(16384);
+    for (uint16_t index = 0x6331; index <= 0x6336; index++)
+        set(index, 3600000);
+    set(0x6330, type);
+    set(0x6314, -16384);
+    query();
+    jump(ticks - 1);
+    query(); /* 1 to go */
+    tick(1);
+    set(0x6314, 16384);
+    query();
+    jump(ticks);
+    query(); /* none to go */
 }
 
 static void example_dead_band(void)
@@ -268,6 +302,10 @@ int mode_examples(void)
     example_requests();
     example_receive();
     example_send();
+    example_one_time();
+    example_end_to_end(1, 7206321);
+    example_end_to_end(2, 7206322); /* a halt at zero */
+    example_end_to_end(3, 7206322);
     fresh();
     return EXIT_GOOD;
 }

@@ -203,6 +203,22 @@ void emit_control(struct maker *m, uint16_t bits)
         emit_word(m, EVENT_CONTROL, word);
 }
 
+/* The set point that is the input in the state the device is in. */
+void emit_target(struct maker *m, int64_t ir)
+{
+    if (m->run.device.state == ACTIVE)
+        emit_write(m, object_find(0x6300), ir);
+    else
+        emit_setting(m, HOLD_SET_POINT, ir);
+}
+
+void emit_jump(struct maker *m, uint32_t ticks)
+{
+    struct record record = make(m, EVENT_JUMP);
+    record.number = ticks;
+    emit(m, &record);
+}
+
 void emit_fault(struct maker *m)
 {
     static const uint16_t codes[] = {0, 0, 1, 255, 256, 0x8000, 0xffff};
@@ -264,7 +280,8 @@ uint32_t ticks_left(const struct device *device)
     return (uint32_t)device_query(device, QUERY_TICKS_TO_GO).value;
 }
 
-/* Ticks to zero: those to go of a copy whose target is zero. */
+/* Ticks that the way to zero alone takes: those to go of a copy whose target is zero. In
+ * type 1 they may lead beyond it. */
 uint32_t ticks_left_to_zero(struct device copy)
 {
     copy.setting[SCALING_FACTOR] = 0;

@@ -16,6 +16,7 @@ enum sweep {
     SWEEP_COMMANDS,
     SWEEP_RANGE_ENDS,
     SWEEP_RAMP_TYPES,
+    SWEEP_ACROSS_ZERO,
     SWEEP_ROOMS,
     SWEEP_WIDE,
     SWEEP_NO_FAULT_STATES,
@@ -77,6 +78,8 @@ void emit_entry_write(struct maker *m, const struct object *object, uint8_t sub,
 void emit_write(struct maker *m, const struct object *object, int64_t value);
 void emit_setting(struct maker *m, enum setting place, int64_t value);
 void emit_control(struct maker *m, uint16_t bits);
+void emit_target(struct maker *m, int64_t ir);
+void emit_jump(struct maker *m, uint32_t ticks);
 void emit_fault(struct maker *m);
 
 /* Steering. */
@@ -101,7 +104,10 @@ void scene_write_edge(struct maker *m);
 void scene_target(struct maker *m);
 void plain_scaling(struct maker *m);
 
-/* Scenes of other files than events.c: of the image, of what is refused, of process data. */
+/* Scenes of other files than events.c: of ramps across zero, of the image, of what is refused,
+ * of process data. */
+void scene_at_once(struct maker *m);
+void scene_across_zero(struct maker *m);
 void scene_store(struct maker *m);
 void scene_load(struct maker *m);
 void scene_append(struct maker *m);

@@ -1,5 +1,5 @@
-/* The device of document 01, in the order of that paper; process data, wish 2 of document 02,
- * stands behind SDO. */
+/* The device of document 01, in the order of that paper, with wishes 1 to 3 of document 02;
+ * process data, wish 2, stands behind SDO. */
 #include "model.h"
 
 #include <string.h>
@@ -274,8 +274,18 @@ static bool signs_opposite(int64_t a, int64_t b)
     return (a < 0 && b > 0) || (a > 0 && b < 0);
 }
 
-/* The step on a way that lies on one side of zero: away from zero it is the
- * acceleration of the side it leads to, else the deceleration of its own. */
+/* Whether a ramp rests at zero on its way to the other side. By wish 3 of document 02
+ * type 1 has one rate and goes straight on. */
+static bool halts_at_zero(const struct device *device, int64_t from, int64_t target)
+{
+    int64_t type = device->setting[RAMP_TYPE];
+    bool may_halt = type == RAMP_TWO_TIMES || type == RAMP_FOUR_TIMES;
+    return may_halt && signs_opposite(from, target);
+}
+
+/* The step on a way without a halt. In type 1 there is one step; in types 2 and 3 such a
+ * way lies on one side of zero: away from zero the step is the acceleration of the side it
+ * leads to, else the deceleration of its own. */
 static int64_t step_on_way(const struct device *device, int64_t from, int64_t to)
 {
     bool away = magnitude(to) > magnitude(from);
@@ -292,8 +302,7 @@ static int64_t position_after_tick(const struct device *device)
     if (device->setting[RAMP_TYPE] == RAMP_NONE)
         return target;
 
-    /* No tick crosses zero: with signs opposite this way ends there. */
-    int64_t to = signs_opposite(from, target) ? 0 : target;
+    int64_t to = halts_at_zero(device, from, target) ? 0 : target;
     int64_t step = step_on_way(device, from, to);
     if (magnitude(to - from) <= step)
         return to;
@@ -309,7 +318,7 @@ enum number device_tick(struct device *device)
     return DONE;
 }
 
-/* Distance over the step, rounded up, on a way on one side of zero. */
+/* Distance over the step, rounded up, on a way without a halt. */
 static int64_t ticks_on_way(const struct device *device, int64_t from, int64_t to)
 {
     int64_t step = step_on_way(device, from, to);
@@ -324,7 +333,7 @@ static int64_t ticks_to_go(const struct device *device)
         return 0;
     if (device->setting[RAMP_TYPE] == RAMP_NONE)
         return 1;
-    if (signs_opposite(from, target))
+    if (halts_at_zero(device, from, target))
         return ticks_on_way(device, from, 0) + ticks_on_way(device, 0, target);
     return ticks_on_way(device, from, target);
 }
@@ -347,7 +356,7 @@ static int64_t position_after_ticks(const struct device *device, int64_t ticks)
         return from;
     if (ticks >= ticks_to_go(device))
         return target;
-    if (!signs_opposite(from, target))
+    if (!halts_at_zero(device, from, target))
         return steps_toward(device, ticks, from, target);
 
     int64_t ticks_to_zero = ticks_on_way(device, from, 0);

@@ -1,4 +1,4 @@
-/* The device of document 01, with wishes 1 and 2 of document 02: what the other files may know
+/* The device of document 01, with wishes 1 to 3 of document 02: what the other files may know
  * of it. */
 #ifndef SECOND_MODEL_H
 #define SECOND_MODEL_H

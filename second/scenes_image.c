@@ -346,6 +346,14 @@ static void emit_load_as_it_is(struct maker *m)
     emit(m, &record);
 }
 
+static void emit_load_cut(struct maker *m, uint16_t size)
+{
+    struct record record = make(m, EVENT_LOAD);
+    record.small = LOAD_CUT;
+    record.word = size;
+    emit(m, &record);
+}
+
 static void emit_append(struct maker *m, uint8_t count)
 {
     static const uint8_t low_bytes[] = {0, 1, 17, 18, 0xaa, 0xff};
@@ -404,12 +412,24 @@ void scene_append(struct maker *m)
 /* Equal limits in the image, after limits that cross by one. */
 static void load_limits(struct maker *m)
 {
+    int64_t lower = between(m, -FULL_STROKE, FULL_STROKE);
     emit_word(m, EVENT_STORE, IMAGE_SIZE);
-    int64_t lower = m->run.device.setting[LOWER_LIMIT];
+    patch_value(m, LOWER_LIMIT, lower);
     patch_value(m, UPPER_LIMIT, lower - 1);
     emit_load_as_it_is(m);
     patch_value(m, UPPER_LIMIT, lower);
     emit_load_as_it_is(m);
+}
+
+/* A good image: none and all but one of its bytes, then all of it outside DISABLED. */
+static void load_good_image(struct maker *m)
+{
+    emit_load_cut(m, 0);
+    emit_load_cut(m, IMAGE_SIZE - 1);
+    for (int i = 0; i < STATES - 1; i++) {
+        steer_outside_disabled(m);
+        emit_load_as_it_is(m);
+    }
 }
 
 /* The image that was refused for a value, now also refused for something else. */
@@ -436,7 +456,7 @@ static void load_refused_again(struct maker *m)
 }
 
 /* In turn: each value that an image may hold beyond its range, one beyond the
- * end and then at it; at last the limits. */
+ * end and then at it; at last the limits, and what is refused of a good image. */
 void scene_loaded_value(struct maker *m)
 {
     enum { RANGES = SETTINGS - RAMP_TYPE };
@@ -447,6 +467,7 @@ void scene_loaded_value(struct maker *m)
     make_image_good(m);
     if (place == SETTINGS) {
         load_limits(m);
+        load_good_image(m);
         return;
     }
     const struct object *object = object_of_setting(place);
@@ -459,17 +480,22 @@ void scene_loaded_value(struct maker *m)
 
 /* ---- Damages played ---- */
 
-/* Mostly one damage, then searches and a load, mostly then a good image again. */
+/* Mostly one damage, then searches and a load, mostly then a good image again. In the first
+ * round each damage stands alone, and the load is made where it is allowed. */
 void scene_damage(struct maker *m)
 {
     uint32_t turn = next_turn(m, SWEEP_DAMAGES);
-    if (!one_in(m, 5))
+    bool alone = turn < DAMAGES;
+    if (alone || !one_in(m, 5))
         make_image_good(m);
     uint8_t tag = damages[turn % DAMAGES](m);
-    if (one_in(m, 4))
+    if (!alone && one_in(m, 4))
         tag = damages[below(m, DAMAGES)](m);
     search_damaged(m, tag);
-    steer_for_load(m);
+    if (alone)
+        steer_to_disabled(m);
+    else
+        steer_for_load(m);
     if (one_in(m, 3))
         emit_append(m, 0);
     else

@@ -149,9 +149,7 @@ static void move_to_target(struct maker *m)
     if (one_in(m, 3))
         plain_scaling(m);
     scene_target(m);
-    struct record record = make(m, EVENT_JUMP);
-    record.number = ticks_left(&m->run.device);
-    emit(m, &record);
+    emit_jump(m, ticks_left(&m->run.device));
 }
 
 /* What is sent changes: the status word, the error code or the command. */

@@ -1,18 +1,21 @@
 -- A tick of a sound device is done and leaves a sound device, so that demand 3 of the device, proved of its events, holds of the calls. The status word's bit 8 compares position and target, which is the formula at tick 0.
 use mathlib.Core.Bool.{Bool, true, false}
+use mathlib.Core.Logic.{_≢_}
 use mathlib.Core.Path.{_≡_, refl, sym, ap, _∙_}
-use Prim.Native.Nat.{ℕ, zero, suc, _%_, _/_}
+use Prim.Native.Nat.{ℕ, zero, suc, _-_, _*_, _/_, _%_, _≤_, _<_}
 use native.Mathlib.Omega.{arith}
 use borrow.Author.Tests.{eqb-true}
 use lib.Dec.{eqb}
-use lib.IntN.{ℤ}
+use lib.IntN.{ℤ, pos}
 use Rattle.integers.specs.Words.{if_then_else_, _=?_}
+use Rattle.integers.proofs.Linear.{ints}
 use Rattle.integers.proofs.Cases.{by-cases}
 use Rattle.integers.proofs.Machine.{=?-refl, =?-no}
 use Rattle.device.specs.States.{HOLD, ACTIVE, driven}
-use Rattle.ramp.specs.Ramp.{ramped, opposite}
+use Rattle.ramp.specs.Ramp.{halting, stepOf, opposite, distance, roundedUp}
+use Rattle.ramp.specs.Demand as Ramp
 use Rattle.block.specs.Target.{targetPosition}
-use Rattle.block.specs.Travel.{rampOf}
+use Rattle.block.specs.Travel.{rampOf, ticksToGoOf}
 use Rattle.block.proofs.Travel.{block-demand3}
 use Rattle.device.specs.Device.{withControl, isActive}
 use Rattle.device.specs.Events.{entering, controlled, tickDeviceTimes}
@@ -70,13 +73,39 @@ module _ {d : Device} (s : Sound d) where
   unfolding tickDeviceTimes
   here = Travel.demand3 s .formula 0
 
-  -- the ramp's ticks are the formula's positions
-  uncrossed : ramped (rampOf (d .block)) ≡ true → (n : ℕ) → opposite (devicePositionAfter n d) (devicePositionAfter (suc n) d) ≡ false
-  unfolding devicePositionAfter
-  uncrossed r n =
-      let of-block = block-demand3 (block-of-sound s) (isActive d) in
+  -- what is said of the ramp's ticks, of the formula's positions
+  of-ramp : Ramp.Demand3 (rampOf (d .block)) (deviceTargetPosition d) (d .block .position)
+  of-ramp = block-demand3 (block-of-sound s) (isActive d)
+
+  latest-straight : rampOf (d .block) .kind ≡ pos 1 → deviceTicksToGo d ≤ 7206321
+  unfolding deviceTicksToGo ticksToGoOf
+  latest-straight one = by-cases (driven (d .state)) (λ k. rw k (of-ramp .latest-straight one)) (λ k. rw k (omega arith))
+
+  ticks-straight :
+      driven (d .state) ≡ true → rampOf (d .block) .kind ≡ pos 1
+      → deviceTicksToGo d ≡ roundedUp (distance (d .block .position) (deviceTargetPosition d)) (stepOf (rampOf (d .block) .acceleration .one))
+  unfolding deviceTicksToGo ticksToGoOf
+  ticks-straight k one = rw k (of-ramp .ticks-straight one)
+
+  once : (m n : ℕ) → m < n → n ≤ deviceTicksToGo d → devicePositionAfter m d ≢ devicePositionAfter n d
+  unfolding devicePositionAfter deviceTicksToGo ticksToGoOf
+  once m n l =
       by-cases (driven (d .state))
-      (λ k. rw (k, ← of-block .formula n, ← of-block .formula (suc n)) (of-block .uncrossed r n))
+      (λ k. rw k (of-ramp .once m n l))
+      (λ k. rw k (λ h. absurd (omega arith)))
+
+  straight :
+      driven (d .state) ≡ true → rampOf (d .block) .kind ≡ pos 1 → (n : ℕ)
+      → distance (devicePositionAfter n d) (deviceTargetPosition d) ≡ distance (d .block .position) (deviceTargetPosition d) - n * stepOf (rampOf (d .block) .acceleration .one)
+  unfolding devicePositionAfter
+  straight k one n = rw k (of-ramp .straight one n)
+
+  uncrossed : (kind : ℕ) → 2 ≤ kind → rampOf (d .block) .kind ≡ pos kind → (n : ℕ) → opposite (devicePositionAfter n d) (devicePositionAfter (suc n) d) ≡ false
+  unfolding devicePositionAfter
+  uncrossed kind two e n =
+      let halts : halting (rampOf (d .block)) ≡ true = rw e (omega (arith, ints)) in
+      by-cases (driven (d .state))
+      (λ k. rw (k, ← of-ramp .formula n, ← of-ramp .formula (suc n)) (of-ramp .uncrossed halts n))
       (λ k. unfold opposite in rw k)
 
   still-sound : (word : ℕ) → soundDevice (withControl word d) ≡ true
@@ -106,7 +135,11 @@ module _ {d : Device} (s : Sound d) where
         kept = of-events .kept;
         first = of-events .first;
         latest = of-events .latest;
+        latest-straight = latest-straight;
         at-rest = λ k. (unfold deviceTicksToGo in rw k, λ n. unfold devicePositionAfter in rw k);
+        ticks-straight = ticks-straight;
+        once = once;
+        straight = straight;
         uncrossed = uncrossed;
         arrived = λ k e. bit-eight d true k (equal (here ∙ of-events .kept k 0 (omega arith)));
         under-way = λ k h. bit-eight d false k (=?-no (d .block .position) (deviceTargetPosition d) (λ e. of-events .first k 0 h (sym here ∙ e)));

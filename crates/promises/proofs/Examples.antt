@@ -61,6 +61,9 @@ unfolding each objects isSigned placeFrom placeOf recordEntry entryAt fourBytes 
 witnesses =
     record {
       longest = refl;
+      longest-straight = refl;
+      through-zero = refl;
+      ticks-through-zero = refl;
       leaves = (refl, refl);
       returns = (refl, refl);
       cyclic-active = (refl, refl);

@@ -79,6 +79,10 @@ rising n = choice 0x6330 1 ∷ time 0x6331 n ∷ input (pos 16384) ∷ control 1
 abbrev outAndIn : List Call
 outAndIn = input (pos 100) ∷ control 1 ∷ tick ∷ choice 0x6330 2 ∷ time 0x6331 1024 ∷ time 0x6334 512 ∷ input (minus 50) ∷ []
 
+-- type 1, steps of 32 ir, from 100 ir to -50 ir likewise
+abbrev throughZero : List Call
+throughZero = input (pos 100) ∷ control 1 ∷ tick ∷ choice 0x6330 1 ∷ time 0x6331 512 ∷ input (minus 50) ∷ []
+
 -- threshold 20, A 300, B 200, in HOLD at so many ir
 abbrev deadBand : ℤ → List Call
 deadBand r = choice 0x6342 1 ∷ word 0x6345 (pos 20) ∷ word 0x6343 (pos 300) ∷ word 0x6344 (pos 200) ∷ input r ∷ control 1 ∷ tick ∷ []
@@ -128,6 +132,16 @@ pub record Witnesses : Type 0 where
       answer ticksToGo
       (input (minus 16384) ∷ control 1 ∷ tick ∷ choice 0x6330 2 ∷ time 0x6331 3600000 ∷ time 0x6334 3600000 ∷ input (pos 16384) ∷ [])
       ≡ told (pos 7206322)
+  -- and so is that of type 1, which goes straight through zero
+  pub longest-straight :
+      answer ticksToGo
+      (input (minus 16384) ∷ control 1 ∷ tick ∷ choice 0x6330 1 ∷ time 0x6331 3600000 ∷ input (pos 16384) ∷ [])
+      ≡ told (pos 7206321)
+  -- no tick of type 1 ends at zero where the step leads past it
+  pub through-zero :
+      map (λ n. answer position (throughZero ++ tickTimes n)) (0 ∷ 1 ∷ 2 ∷ 3 ∷ 4 ∷ 5 ∷ 6 ∷ [])
+      ≡ ir (pos 100 ∷ pos 68 ∷ pos 36 ∷ pos 4 ∷ minus 28 ∷ minus 50 ∷ minus 50 ∷ [])
+  pub ticks-through-zero : answer ticksToGo throughZero ≡ told (pos 5)
   -- a device goes from ACTIVE to HOLD and back by calls that alter nothing
   pub leaves :
       (altersNothing (control 1 ∷ []) (history (control 7 ∷ control 7 ∷ [])) ≡ true)

@@ -16,7 +16,6 @@ use Rattle.ramp.specs.Asked.{Steppable}
 use Rattle.ramp.specs.declared.Times.{Times}
 use Rattle.ramp.specs.declared.Ramp.{Ramp}
 use Rattle.ramp.proofs.Moves.{by-move}
-use Rattle.ramp.proofs.Legs.{Beside, high, low}
 
 -- ---- times and steps
 
@@ -75,11 +74,13 @@ moved-inside g m p h k =
     (λ w. inside (record { least = omega arith; most = omega arith }))
     (λ w. inside (record { least = omega arith; most = omega arith }))
 
--- on one side of zero
-pub beside-near : {t p : ℤ} → Inside t → Inside p → Beside t p → distance p t ≤ FULL-POSITION
+-- to zero and from it
+pub half-stroke : (p : ℤ) → Inside p → (distance p (pos 0) ≤ FULL-POSITION) × (distance (pos 0) p ≤ FULL-POSITION)
 unfolding distance
-beside-near {t} {p} h k (high a b) = omega (arith, ints, sub-nat p t, abs-nat (p -ℤ t), held h, held k)
-beside-near {t} {p} h k (low a b) = omega (arith, ints, sub-nat p t, abs-nat (p -ℤ t), held h, held k)
+half-stroke p h = (
+  omega (arith, ints, sub-nat p (pos 0), abs-nat (p -ℤ pos 0), held h),
+  omega (arith, ints, sub-nat (pos 0) p, abs-nat (pos 0 -ℤ p), held h),
+)
 
 -- the way on from zero
 pub way-on : {r : Ramp} {t p : ℤ} → Way r t p → Way r t (pos 0)

@@ -1,16 +1,18 @@
 -- Demand 3, from every sound ramp, target and position.
 use mathlib.Core.Bool.{true, false}
-use mathlib.Core.Path.{_≡_}
-use Prim.Native.Nat.{ℕ}
+use mathlib.Core.Logic.{_≢_}
+use mathlib.Core.Path.{_≡_, sym, ap, _∙_}
+use Prim.Native.Nat.{ℕ, _+_, _-_, _*_, _≤_, _<_}
 use native.Mathlib.Omega.{arith}
-use lib.IntN.{ℤ}
+use lib.IntN.{ℤ, pos}
 use Rattle.integers.proofs.Linear.{ints}
-use Rattle.ramp.specs.Ramp.{ramped, opposite, moved, stop, stride, tickOf, ticked, Way}
+use Rattle.integers.proofs.Cases.{clash}
+use Rattle.ramp.specs.Ramp.{halting, stepOf, opposite, distance, moved, stop, stride, tickOf, ticked, roundedUp, ticksToGo, positionAfter, Way}
 use Rattle.ramp.specs.Demand.{Demand3}
 use Rattle.ramp.specs.declared.Ramp.{Ramp}
-use Rattle.ramp.proofs.Moves.{by-move}
-use Rattle.ramp.proofs.Legs.{Beside, high, low, beside, flip, by-leg, from-zero, stop-at-zero, stop-at-target}
-use Rattle.ramp.proofs.Formula.{kept, latest}
+use Rattle.ramp.proofs.Moves.{by-move, moved-distance}
+use Rattle.ramp.proofs.Legs.{Beside, high, low, beside, flip, by-leg, from-zero, halting-ramped, halts-never, stop-at-zero, stop-at-target, one-step}
+use Rattle.ramp.proofs.Formula.{kept, ticks-straight, straight, latest, latest-straight}
 use Rattle.ramp.proofs.Travel.{formula, jumps, not-before, stays}
 
 -- a move toward a stop on its own side of zero, or at zero, stays on that side
@@ -18,21 +20,44 @@ same-side : (g : ℤ) (m : ℕ) (p : ℤ) → Beside g p → Beside p (moved g m
 same-side g m p (high a b) = high b (by-move g m p (λ w. omega (arith, ints)) (λ w. omega (arith, ints)))
 same-side g m p (low a b) = low b (by-move g m p (λ w. omega (arith, ints)) (λ w. omega (arith, ints)))
 
-uncrossed : (r : Ramp) (t p : ℤ) → ramped r ≡ true → opposite p (tickOf r t p) ≡ false
+uncrossed : (r : Ramp) (t p : ℤ) → halting r ≡ true → opposite p (tickOf r t p) ≡ false
 unfolding tickOf
 uncrossed r t p k =
-    rw k (beside (same-side (stop r t p) (stride r t p) p
-    (by-leg r t p k (λ h a. rw (stop-at-zero r t p h) (flip (from-zero p))) (λ h b. rw (stop-at-target r t p h) b))))
+    rw (halting-ramped r k) (beside (same-side (stop r t p) (stride r t p) p
+    (by-leg r t p (λ s. clash k s) (λ h a. rw (stop-at-zero r t p h) (flip (from-zero p))) (λ h b. rw (stop-at-target r t p h) b))))
 
-pub demand3 : {r : Ramp} {t p : ℤ} → Way r t p → Demand3 r t p
-unfolding ticked
-demand3 {r} {t} {p} w =
-    record {
-      formula = formula w;
-      jumps = jumps w;
-      kept = kept r t p;
-      first = not-before w;
-      latest = latest w;
-      stays = stays w;
-      uncrossed = λ k n. uncrossed r t (ticked r t p n) k;
-    }
+module _ {r : Ramp} {t p : ℤ} (w : Way r t p) where
+  -- of two equal positions the later would meet the target at the last tick, and so the earlier before it
+  once : (m n : ℕ) → m < n → n ≤ ticksToGo r t p → positionAfter r t p m ≢ positionAfter r t p n
+  once m n l k e =
+      let j = ticksToGo r t p - n in
+      not-before w (m + j) (omega arith)
+      (sym (jumps w m j) ∙ ap (λ q. positionAfter r t q j) e ∙ jumps w n j ∙ kept r t p (n + j) (omega arith))
+
+  -- type 1 is a ramp that never halts, and has one step
+  module _ (one : r .kind ≡ pos 1) where
+    never : halting r ≡ false
+    never = rw one
+
+    whole-distance : ticksToGo r t p ≡ roundedUp (distance p t) (stepOf (r .acceleration .one))
+    whole-distance = ticks-straight w (rw one) (halts-never r t p never) ∙ rw (one-step r t p never)
+
+    whole-steps : (n : ℕ) → distance (positionAfter r t p n) t ≡ distance p t - n * stepOf (r .acceleration .one)
+    whole-steps n = rw (straight w (rw one) (halts-never r t p never) n, moved-distance, one-step r t p never)
+
+  pub demand3 : Demand3 r t p
+  unfolding ticked
+  demand3 =
+      record {
+        formula = formula w;
+        jumps = jumps w;
+        kept = kept r t p;
+        first = not-before w;
+        latest = latest w;
+        latest-straight = λ one. latest-straight w (halts-never r t p (never one));
+        stays = stays w;
+        ticks-straight = whole-distance;
+        once = once;
+        straight = whole-steps;
+        uncrossed = λ k n. uncrossed r t (ticked r t p n) k;
+      }

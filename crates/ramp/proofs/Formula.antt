@@ -2,20 +2,20 @@
 use mathlib.Core.Bool.{true, false}
 use mathlib.Core.Path.{_≡_, sym, _∙_}
 use Prim.Native.Nat.{ℕ, _+_, _-_, _*_, _≤_, _<_}
+use native.Mathlib.Nat.{mul-le-mul-left}
 use native.Mathlib.Omega.{arith}
 use borrow.Author.Tests.{lt-ltb, le-ltb}
 use lib.IntN.{ℤ, pos}
 use Rattle.integers.specs.Words.{_=?_}
 use Rattle.integers.proofs.Machine.{=?-refl, =?-yes}
 use Rattle.integers.proofs.Cases.{by-cases, by-less, clash}
-use Rattle.objects.specs.Numbers.{FULL-POSITION}
 use Rattle.ramp.specs.Ramp.{distance, moved, ramped, halts, stride, roundedUp, ticksToZero, ticksToGo, positionAfter, Sound, Way}
-use Rattle.ramp.specs.Demand.{LATEST-TICK}
+use Rattle.ramp.specs.Demand.{LATEST-TICK, LATEST-TICK-STRAIGHT}
 use Rattle.ramp.specs.declared.Ramp.{Ramp}
 use Rattle.ramp.proofs.Moves.{arrives, on-the-way, toward-none, distance-self}
 use Rattle.ramp.proofs.Rounding.{enough, least, too-few}
-use Rattle.ramp.proofs.Legs.{flip, by-leg, at-target, from-zero, halts-beside, halts-ramped}
-use Rattle.ramp.proofs.Bounds.{stride-paced, zero-inside, beside-near}
+use Rattle.ramp.proofs.Legs.{at-target, halts-beside, halts-ramped, halts-without-ramp}
+use Rattle.ramp.proofs.Bounds.{stride-paced, distance-most, half-stroke}
 
 -- the three ways
 pub by-way {ℓ} : (r : Ramp) (t p : ℤ) {X : Type ℓ} → (ramped r ≡ false → X) → (ramped r ≡ true → halts r t p ≡ false → X) → (halts r t p ≡ true → X) → X
@@ -39,11 +39,11 @@ pub at-once : (r : Ramp) (t p : ℤ) → ramped r ≡ false → (n : ℕ) → 0 
 at-once r t p k n h = kept r t p n (omega (arith, one-to-go r t p k))
 
 pub not-yet : (r : Ramp) (t p : ℤ) → ramped r ≡ false → positionAfter r t p 0 ≡ p
-unfolding positionAfter ticksToGo halts
+unfolding positionAfter ticksToGo
 not-yet r t p k =
     by-cases (p =? t)
     (λ e. rw (=?-yes p t e) (kept r t t 0 (omega (arith, none-to-go r t))))
-    (λ e. let z : 0 * stride r t p ≡ 0 = omega arith in simp (e, k, z) (toward-none t p))
+    (λ e. let z : 0 * stride r t p ≡ 0 = omega arith in simp (e, k, halts-without-ramp r t p k, z) (toward-none t p))
 
 -- a step is above zero
 pub strides : {r : Ramp} → Sound r → (t p : ℤ) → 0 < stride r t p
@@ -101,14 +101,26 @@ module _ {r : Ramp} {t p : ℤ} (w : Way r t p) where
       (λ g. rw (lt-ltb n (ticksToGo r t p) g, h, le-ltb n k l) (sym (on-the-way t _ (pos 0) (too-few (distance (pos 0) t) s (n - k) (omega arith)))))
       (λ g. kept r t p n g ∙ sym (arrives t _ (pos 0) (enough (distance (pos 0) t) s (n - k) (omega arith))))
 
-  -- type 0 takes one tick at most, and a ramp the longest time's steps on either side of zero
+  -- where n of the longest time's steps are enough, n ticks are
+  slowest : (p g : ℤ) (n : ℕ) → distance p g ≤ n * 298 → roundedUp (distance p g) (stride r t p) ≤ n
+  slowest p g n d = least (distance p g) (strides (w .ramp) t p) n (omega (arith, mul-le-mul-left n (stride-paced (w .ramp) t p .slowest)))
+
+  -- with no halt they go from end to end at most; type 0 takes one tick
+  pub latest-straight : halts r t p ≡ false → ticksToGo r t p ≤ LATEST-TICK-STRAIGHT
+  latest-straight h =
+      by-cases (ramped r)
+      (λ k. omega (arith, ticks-straight k h, slowest p t LATEST-TICK-STRAIGHT (omega (arith, distance-most p t (w .position) (w .target)))))
+      (λ k. omega (arith, one-to-go r t p k))
+
+  -- and with one over half of the stroke twice
   pub latest : ticksToGo r t p ≤ LATEST-TICK
   unfolding ticksToZero
   latest =
-      by-way r t p
-      (λ k. omega (arith, one-to-go r t p k))
-      (λ k h. by-leg r t p k (λ g a. clash g h) (λ g b. omega (arith, ticks-straight k h, side p t (beside-near (w .target) (w .position) b))))
-      (λ h. omega (arith, ticks-halting h, side p (pos 0) (beside-near zero-inside (w .position) (flip (from-zero p))), side (pos 0) t (beside-near (w .target) zero-inside (from-zero t))))
-    where
-      side : (p g : ℤ) → distance p g ≤ FULL-POSITION → roundedUp (distance p g) (stride r t p) ≤ 3603161
-      side p g d = least (distance p g) (strides (w .ramp) t p) 3603161 (omega (arith, stride-paced (w .ramp) t p .slowest))
+      by-cases (halts r t p)
+      (λ h. omega (
+        arith,
+        ticks-halting h,
+        slowest p (pos 0) 3603161 (omega (arith, half-stroke p (w .position) .0)),
+        slowest (pos 0) t 3603161 (omega (arith, half-stroke t (w .target) .1)),
+      ))
+      (λ h. omega (arith, latest-straight h))

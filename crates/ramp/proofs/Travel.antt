@@ -22,7 +22,7 @@ module _ (r : Ramp) (t p : ℤ) (k : ramped r ≡ true) where
   onward : (n : ℕ) → n * stride r t p < distance p (stop r t p) → tickOf r t (moved (stop r t p) (n * stride r t p) p) ≡ moved (stop r t p) (suc n * stride r t p) p
   unfolding tickOf
   onward n h =
-      let s = steady r t p (n * stride r t p) k h in
+      let s = steady r t p (n * stride r t p) h in
       let e : n * stride r t p + stride r t p ≡ suc n * stride r t p = omega arith in
       rw (k, s .stops, s .strides, moved-again, e)
 
@@ -92,7 +92,7 @@ module _ {r : Ramp} {t p : ℤ} (w : Way r t p) where
       (λ h. by-less n (ticksToZero r t p)
       (λ m. let f = stop-at-zero r t p h in
       let q : moved (pos 0) (n * stride r t p) p ≡ t = sym (before-zero w h n m) ∙ e in
-      let g : stop r t t ≡ pos 0 = rw (f, q) at (steady r t p (n * stride r t p) (halts-ramped r t p h) (rw f (short w n m)) .stops) in
+      let g : stop r t t ≡ pos 0 = rw (f, q) at (steady r t p (n * stride r t p) (rw f (short w n m)) .stops) in
       short-of (pos 0) _ p (short w n m) (q ∙ sym (stop-at-target r t t (halts-beside r t t (at-target t))) ∙ g))
       (λ m. short-of t _ (pos 0) (too-few _ (strides (w .ramp) t (pos 0)) (n - ticksToZero r t p) (omega (arith, ticks-halting w h))) (sym (after-zero w h n m) ∙ e)))
 

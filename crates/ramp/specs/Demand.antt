@@ -2,14 +2,18 @@
 use mathlib.Core.Bool.{true, false}
 use mathlib.Core.Logic.{_≢_}
 use mathlib.Core.Path.{_≡_}
-use Prim.Native.Nat.{ℕ, suc, _+_, _≤_, _<_}
-use lib.IntN.{ℤ}
-use Rattle.ramp.specs.Ramp.{ramped, opposite, ticked, ticksToGo, positionAfter, Inside}
+use Prim.Native.Nat.{ℕ, suc, _+_, _-_, _*_, _≤_, _<_}
+use lib.IntN.{ℤ, pos}
+use Rattle.ramp.specs.Ramp.{halting, stepOf, opposite, distance, ticked, roundedUp, ticksToGo, positionAfter, Inside}
 use Rattle.ramp.specs.declared.Ramp.{Ramp}
 
 -- no way takes more ticks
 abbrev pub LATEST-TICK : ℕ
 LATEST-TICK = 7206322
+
+-- and none of type 1 more than these
+abbrev pub LATEST-TICK-STRAIGHT : ℕ
+LATEST-TICK-STRAIGHT = 7206321
 
 pub record Demand3 (r : Ramp) (t p : ℤ) : Type 0 where
   -- n single ticks end where the closed formula says
@@ -22,7 +26,15 @@ pub record Demand3 (r : Ramp) (t p : ℤ) : Type 0 where
   pub first : (n : ℕ) → n < ticksToGo r t p → positionAfter r t p n ≢ t
   -- it is met by the latest tick
   pub latest : ticksToGo r t p ≤ LATEST-TICK
+  -- in type 1 a tick earlier
+  pub latest-straight : r .kind ≡ pos 1 → ticksToGo r t p ≤ LATEST-TICK-STRAIGHT
   -- the position stays within full stroke
   pub stays : (n : ℕ) → Inside (positionAfter r t p n)
-  -- on a ramp no tick crosses zero
-  pub uncrossed : ramped r ≡ true → (n : ℕ) → opposite (ticked r t p n) (ticked r t p (suc n)) ≡ false
+  -- until the target is met no position comes twice, so that at most one of them is zero
+  pub once : (m n : ℕ) → m < n → n ≤ ticksToGo r t p → positionAfter r t p m ≢ positionAfter r t p n
+  -- in type 1 the ticks to go are the whole distance over the step, rounded up
+  pub ticks-straight : r .kind ≡ pos 1 → ticksToGo r t p ≡ roundedUp (distance p t) (stepOf (r .acceleration .one))
+  -- and each tick takes a whole step off that distance, until none is left
+  pub straight : r .kind ≡ pos 1 → (n : ℕ) → distance (positionAfter r t p n) t ≡ distance p t - n * stepOf (r .acceleration .one)
+  -- in types 2 and 3 no tick crosses zero
+  pub uncrossed : halting r ≡ true → (n : ℕ) → opposite (ticked r t p n) (ticked r t p (suc n)) ≡ false

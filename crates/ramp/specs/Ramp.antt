@@ -13,6 +13,10 @@ use Rattle.ramp.specs.declared.Ramp.{Ramp}
 abbrev pub ramped : Ramp → Bool
 ramped r = not (r .kind =? pos 0)
 
+-- types 2 and 3 halt at zero; type 1 goes straight through it
+abbrev pub halting : Ramp → Bool
+halting r = pos 1 <? r .kind
+
 -- ---- times and steps
 
 -- the time of the side of zero on which z is
@@ -58,9 +62,9 @@ toward g m p = if p <? g then p +ℤ pos m else p -ℤ pos m
 unfoldable pub moved : ℤ → ℕ → ℤ → ℤ
 moved g m p = if m below distance p g then toward g m p else g
 
--- the way halts at zero before it goes on to the target: on a ramp, from the far side of zero
+-- the way halts at zero before it goes on to the target: in types 2 and 3, from the far side of zero
 unfoldable pub halts : Ramp → ℤ → ℤ → Bool
-halts r t p = ramped r && opposite t p
+halts r t p = halting r && opposite t p
 
 -- where the ticks from p stop first: at zero, or at the target
 unfoldable pub stop : Ramp → ℤ → ℤ → ℤ

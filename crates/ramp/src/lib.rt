@@ -139,10 +139,17 @@ fn ramped(ramp: Ramp) -> bool
     ramp.kind != 0
 }
 
+// Types 2 and 3; type 1 has one rate and no reason to pause.
+fn halting(ramp: Ramp) -> bool
+    ensures { λ r. ⌜ r ≡ Ramps.halting ramp ⌝ }
+{
+    1 < ramp.kind
+}
+
 fn halts(ramp: Ramp, t: i64, p: i64) -> bool
     ensures { λ r. ⌜ r ≡ Ramps.halts ramp t p ⌝ }
 {
-    ramped(ramp) && opposite(t, p)
+    halting(ramp) && opposite(t, p)
 }
 
 fn stop(ramp: Ramp, t: i64, p: i64) -> i64

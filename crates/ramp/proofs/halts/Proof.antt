@@ -16,5 +16,5 @@ halts-spec =
     (λ c.
     let k = c .before .before in
     let f = k .before .fits in
-    c .opposite .ensures ∙ simp (toZ-ofZ (f .t), toZ-ofZ (f .p), sym (k .ramped .ensures) ∙ c .before .if1 .taken))
-    (λ c. c .if1 .left ∙ simp (sym (c .before .ramped .ensures) ∙ c .if1 .left)))
+    c .opposite .ensures ∙ simp (toZ-ofZ (f .t), toZ-ofZ (f .p), sym (k .halting .ensures) ∙ c .before .if1 .taken))
+    (λ c. c .if1 .left ∙ simp (sym (c .before .halting .ensures) ∙ c .if1 .left)))
