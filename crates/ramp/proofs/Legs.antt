@@ -132,11 +132,11 @@ halts-across r t p k a = simp (k, across a)
 
 pub halts-beside : (r : Ramp) (t p : ℤ) → Beside t p → halts r t p ≡ false
 unfolding halts
-halts-beside r t p b = simp (beside b, and-false)
+halts-beside r t p b = rw (beside b)
 
 pub halts-never : (r : Ramp) (t p : ℤ) → halting r ≡ false → halts r t p ≡ false
 unfolding halts
-halts-never r t p k = rw k
+halts-never r t p k = simp (k, and-false)
 
 -- with a halt there is a ramp
 pub halting-ramped : (r : Ramp) → halting r ≡ true → ramped r ≡ true
@@ -144,7 +144,7 @@ halting-ramped r k = rw (=?-no (r .kind) (pos 0) (λ e. clash k (rw e)))
 
 pub halts-ramped : (r : Ramp) (t p : ℤ) → halts r t p ≡ true → ramped r ≡ true
 unfolding halts
-halts-ramped r t p h = halting-ramped r (and-split (halting r) (opposite t p) h .0)
+halts-ramped r t p h = halting-ramped r (and-split (opposite t p) (halting r) h .1)
 
 pub halts-without-ramp : (r : Ramp) (t p : ℤ) → ramped r ≡ false → halts r t p ≡ false
 halts-without-ramp r t p k = by-cases (halts r t p) (λ h. clash (halts-ramped r t p h) k) (λ h. h)

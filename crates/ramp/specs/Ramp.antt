@@ -62,9 +62,9 @@ toward g m p = if p <? g then p +ℤ pos m else p -ℤ pos m
 unfoldable pub moved : ℤ → ℕ → ℤ → ℤ
 moved g m p = if m below distance p g then toward g m p else g
 
--- the way halts at zero before it goes on to the target: in types 2 and 3, from the far side of zero
+-- the way halts at zero before it goes on to the target: from the far side of zero, in types 2 and 3
 unfoldable pub halts : Ramp → ℤ → ℤ → Bool
-halts r t p = halting r && opposite t p
+halts r t p = opposite t p && halting r
 
 -- where the ticks from p stop first: at zero, or at the target
 unfoldable pub stop : Ramp → ℤ → ℤ → ℤ

@@ -149,7 +149,7 @@ fn halting(ramp: Ramp) -> bool
 fn halts(ramp: Ramp, t: i64, p: i64) -> bool
     ensures { λ r. ⌜ r ≡ Ramps.halts ramp t p ⌝ }
 {
-    halting(ramp) && opposite(t, p)
+    opposite(t, p) && halting(ramp)
 }
 
 fn stop(ramp: Ramp, t: i64, p: i64) -> i64
