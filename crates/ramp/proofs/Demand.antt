@@ -7,7 +7,7 @@ use native.Mathlib.Omega.{arith}
 use lib.IntN.{ℤ, pos}
 use Rattle.integers.proofs.Linear.{ints}
 use Rattle.integers.proofs.Cases.{clash}
-use Rattle.ramp.specs.Ramp.{halting, stepOf, opposite, distance, moved, stop, stride, tickOf, ticked, roundedUp, ticksToGo, positionAfter, Way}
+use Rattle.ramp.specs.Ramp.{halting, stepOf, opposite, distance, moved, halts, stop, stride, tickOf, ticked, roundedUp, ticksToGo, positionAfter, Way}
 use Rattle.ramp.specs.Demand.{Demand3}
 use Rattle.ramp.specs.declared.Ramp.{Ramp}
 use Rattle.ramp.proofs.Moves.{by-move, moved-distance}
@@ -26,38 +26,40 @@ uncrossed r t p k =
     rw (halting-ramped r k) (beside (same-side (stop r t p) (stride r t p) p
     (by-leg r t p (λ s. clash k s) (λ h a. rw (stop-at-zero r t p h) (flip (from-zero p))) (λ h b. rw (stop-at-target r t p h) b))))
 
-module _ {r : Ramp} {t p : ℤ} (w : Way r t p) where
-  -- of two equal positions the later would meet the target at the last tick, and so the earlier before it
-  once : (m n : ℕ) → m < n → n ≤ ticksToGo r t p → positionAfter r t p m ≢ positionAfter r t p n
-  once m n l k e =
-      let j = ticksToGo r t p - n in
-      not-before w (m + j) (omega arith)
-      (sym (jumps w m j) ∙ ap (λ q. positionAfter r t q j) e ∙ jumps w n j ∙ kept r t p (n + j) (omega arith))
+-- of two equal positions the later would meet the target at the last tick, and so the earlier before it
+once : {r : Ramp} {t p : ℤ} → Way r t p → (m n : ℕ) → m < n → n ≤ ticksToGo r t p → positionAfter r t p m ≢ positionAfter r t p n
+once {r} {t} {p} w m n l k e =
+    let j = ticksToGo r t p - n in
+    not-before w (m + j) (omega arith)
+    (sym (jumps w m j) ∙ ap (λ q. positionAfter r t q j) e ∙ jumps w n j ∙ kept r t p (n + j) (omega arith))
 
-  -- type 1 is a ramp that never halts, and has one step
-  module _ (one : r .kind ≡ pos 1) where
-    never : halting r ≡ false
-    never = rw one
+-- type 1 is a ramp that never halts, and has one step
+module _ {r : Ramp} {t p : ℤ} (w : Way r t p) (one : r .kind ≡ pos 1) where
+  never : halts r t p ≡ false
+  never = halts-never r t p (rw one)
 
-    whole-distance : ticksToGo r t p ≡ roundedUp (distance p t) (stepOf (r .acceleration .one))
-    whole-distance = ticks-straight w (rw one) (halts-never r t p never) ∙ rw (one-step r t p never)
+  step : stride r t p ≡ stepOf (r .acceleration .one)
+  step = one-step r t p (rw one)
 
-    whole-steps : (n : ℕ) → distance (positionAfter r t p n) t ≡ distance p t - n * stepOf (r .acceleration .one)
-    whole-steps n = rw (straight w (rw one) (halts-never r t p never) n, moved-distance, one-step r t p never)
+  whole-distance : ticksToGo r t p ≡ roundedUp (distance p t) (stepOf (r .acceleration .one))
+  whole-distance = ticks-straight w (rw one) never ∙ rw step
 
-  pub demand3 : Demand3 r t p
-  unfolding ticked
-  demand3 =
-      record {
-        formula = formula w;
-        jumps = jumps w;
-        kept = kept r t p;
-        first = not-before w;
-        latest = latest w;
-        latest-straight = λ one. latest-straight w (halts-never r t p (never one));
-        stays = stays w;
-        ticks-straight = whole-distance;
-        once = once;
-        straight = whole-steps;
-        uncrossed = λ k n. uncrossed r t (ticked r t p n) k;
-      }
+  whole-steps : (n : ℕ) → distance (positionAfter r t p n) t ≡ distance p t - n * stepOf (r .acceleration .one)
+  whole-steps n = rw (straight w (rw one) never n, moved-distance, step)
+
+pub demand3 : {r : Ramp} {t p : ℤ} → Way r t p → Demand3 r t p
+unfolding ticked
+demand3 {r} {t} {p} w =
+    record {
+      formula = formula w;
+      jumps = jumps w;
+      kept = kept r t p;
+      first = not-before w;
+      latest = latest w;
+      latest-straight = λ one. latest-straight w (never w one);
+      stays = stays w;
+      once = once w;
+      ticks-straight = whole-distance w;
+      straight = whole-steps w;
+      uncrossed = λ k n. uncrossed r t (ticked r t p n) k;
+    }
