@@ -274,7 +274,7 @@ static bool signs_opposite(int64_t a, int64_t b)
     return (a < 0 && b > 0) || (a > 0 && b < 0);
 }
 
-/* Whether a ramp rests at zero on its way to the other side. By wish 3 of document 02
+/* Whether a ramp halts at zero on its way to the other side. By wish 3 of document 02
  * type 1 has one rate and goes straight on. */
 static bool halts_at_zero(const struct device *device, int64_t from, int64_t target)
 {

@@ -2,17 +2,16 @@
 use mathlib.Core.Bool.{Bool, true, false}
 use mathlib.Core.Logic.{_≢_}
 use mathlib.Core.Path.{_≡_, refl, sym, ap, _∙_}
-use Prim.Native.Nat.{ℕ, zero, suc, _-_, _*_, _/_, _%_, _≤_, _<_}
+use Prim.Native.Nat.{ℕ, zero, suc, _*_, _/_, _%_, _≤_, _<_}
 use native.Mathlib.Omega.{arith}
 use borrow.Author.Tests.{eqb-true}
 use lib.Dec.{eqb}
 use lib.IntN.{ℤ, pos}
 use Rattle.integers.specs.Words.{if_then_else_, _=?_}
-use Rattle.integers.proofs.Linear.{ints}
 use Rattle.integers.proofs.Cases.{by-cases}
 use Rattle.integers.proofs.Machine.{=?-refl, =?-no}
 use Rattle.device.specs.States.{HOLD, ACTIVE, driven}
-use Rattle.ramp.specs.Ramp.{halting, stepOf, opposite, distance, roundedUp}
+use Rattle.ramp.specs.Ramp.{stepOf, opposite, distance, moved, roundedUp}
 use Rattle.ramp.specs.Demand as Ramp
 use Rattle.block.specs.Target.{targetPosition}
 use Rattle.block.specs.Travel.{rampOf, ticksToGoOf}
@@ -73,19 +72,19 @@ module _ {d : Device} (s : Sound d) where
   unfolding tickDeviceTimes
   here = Travel.demand3 s .formula 0
 
-  -- what is said of the ramp's ticks, of the formula's positions
+  -- demand 3 of the device's ramp, of which what follows is handed on
   of-ramp : Ramp.Demand3 (rampOf (d .block)) (deviceTargetPosition d) (d .block .position)
   of-ramp = block-demand3 (block-of-sound s) (isActive d)
 
-  latest-straight : rampOf (d .block) .kind ≡ pos 1 → deviceTicksToGo d ≤ 7206321
+  latest-in-type-one : rampOf (d .block) .kind ≡ pos 1 → deviceTicksToGo d ≤ 7206321
   unfolding deviceTicksToGo ticksToGoOf
-  latest-straight one = by-cases (driven (d .state)) (λ k. rw k (of-ramp .latest-straight one)) (λ k. rw k (omega arith))
+  latest-in-type-one one = by-cases (driven (d .state)) (λ k. rw k (of-ramp .latest-in-type-one one)) (λ k. rw k (omega arith))
 
-  ticks-straight :
+  ticks-in-type-one :
       driven (d .state) ≡ true → rampOf (d .block) .kind ≡ pos 1
       → deviceTicksToGo d ≡ roundedUp (distance (d .block .position) (deviceTargetPosition d)) (stepOf (rampOf (d .block) .acceleration .one))
   unfolding deviceTicksToGo ticksToGoOf
-  ticks-straight k one = rw k (of-ramp .ticks-straight one)
+  ticks-in-type-one k one = rw k (of-ramp .ticks-in-type-one one)
 
   once : (m n : ℕ) → m < n → n ≤ deviceTicksToGo d → devicePositionAfter m d ≢ devicePositionAfter n d
   unfolding devicePositionAfter deviceTicksToGo ticksToGoOf
@@ -94,18 +93,17 @@ module _ {d : Device} (s : Sound d) where
       (λ k. rw k (of-ramp .once m n l))
       (λ k. rw k (λ h. absurd (omega arith)))
 
-  straight :
+  position-in-type-one :
       driven (d .state) ≡ true → rampOf (d .block) .kind ≡ pos 1 → (n : ℕ)
-      → distance (devicePositionAfter n d) (deviceTargetPosition d) ≡ distance (d .block .position) (deviceTargetPosition d) - n * stepOf (rampOf (d .block) .acceleration .one)
+      → devicePositionAfter n d ≡ moved (deviceTargetPosition d) (n * stepOf (rampOf (d .block) .acceleration .one)) (d .block .position)
   unfolding devicePositionAfter
-  straight k one n = rw k (of-ramp .straight one n)
+  position-in-type-one k one n = rw k (of-ramp .position-in-type-one one n)
 
   uncrossed : (kind : ℕ) → 2 ≤ kind → rampOf (d .block) .kind ≡ pos kind → (n : ℕ) → opposite (devicePositionAfter n d) (devicePositionAfter (suc n) d) ≡ false
   unfolding devicePositionAfter
   uncrossed kind two e n =
-      let halts : halting (rampOf (d .block)) ≡ true = rw e (omega (arith, ints)) in
       by-cases (driven (d .state))
-      (λ k. rw (k, ← of-ramp .formula n, ← of-ramp .formula (suc n)) (of-ramp .uncrossed halts n))
+      (λ k. rw (k, ← of-ramp .formula n, ← of-ramp .formula (suc n)) (of-ramp .uncrossed kind two e n))
       (λ k. unfold opposite in rw k)
 
   still-sound : (word : ℕ) → soundDevice (withControl word d) ≡ true
@@ -135,11 +133,11 @@ module _ {d : Device} (s : Sound d) where
         kept = of-events .kept;
         first = of-events .first;
         latest = of-events .latest;
-        latest-straight = latest-straight;
+        latest-in-type-one = latest-in-type-one;
         at-rest = λ k. (unfold deviceTicksToGo in rw k, λ n. unfold devicePositionAfter in rw k);
-        ticks-straight = ticks-straight;
+        ticks-in-type-one = ticks-in-type-one;
         once = once;
-        straight = straight;
+        position-in-type-one = position-in-type-one;
         uncrossed = uncrossed;
         arrived = λ k e. bit-eight d true k (equal (here ∙ of-events .kept k 0 (omega arith)));
         under-way = λ k h. bit-eight d false k (=?-no (d .block .position) (deviceTargetPosition d) (λ e. of-events .first k 0 h (sym here ∙ e)));

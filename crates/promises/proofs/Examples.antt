@@ -61,7 +61,7 @@ unfolding each objects isSigned placeFrom placeOf recordEntry entryAt fourBytes 
 witnesses =
     record {
       longest = refl;
-      longest-straight = refl;
+      longest-in-type-one = refl;
       through-zero = refl;
       ticks-through-zero = refl;
       leaves = (refl, refl);

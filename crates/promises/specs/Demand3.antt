@@ -2,9 +2,9 @@
 use mathlib.Core.Bool.{true, false}
 use mathlib.Core.Logic.{_≢_}
 use mathlib.Core.Path.{_≡_}
-use Prim.Native.Nat.{ℕ, zero, suc, _-_, _*_, _/_, _%_, _≤_, _<_}
+use Prim.Native.Nat.{ℕ, zero, suc, _*_, _/_, _%_, _≤_, _<_}
 use lib.IntN.{pos, _*ℤ_}
-use Rattle.ramp.specs.Ramp.{stepOf, opposite, distance, roundedUp}
+use Rattle.ramp.specs.Ramp.{stepOf, opposite, distance, moved, roundedUp}
 use Rattle.block.specs.Travel.{rampOf}
 use Rattle.device.specs.States.{driven}
 use Rattle.device.specs.Device.{withControl}
@@ -45,19 +45,19 @@ pub record Demand3 (d : Device) : Type 0 where
   -- never after tick 7,206,322
   pub latest : deviceTicksToGo d ≤ 7206322
   -- and in ramp type 1 never after tick 7,206,321
-  pub latest-straight : rampOf (d .block) .kind ≡ pos 1 → deviceTicksToGo d ≤ 7206321
+  pub latest-in-type-one : rampOf (d .block) .kind ≡ pos 1 → deviceTicksToGo d ≤ 7206321
   -- in DISABLED and FAULT it is 0, and so is the position
   pub at-rest : driven (d .state) ≡ false → (deviceTicksToGo d ≡ 0) × ((n : ℕ) → devicePositionAfter n d ≡ pos 0)
   -- until the target is met no position comes twice, so that at most one of them is zero
   pub once : (m n : ℕ) → m < n → n ≤ deviceTicksToGo d → devicePositionAfter m d ≢ devicePositionAfter n d
-  -- in HOLD and ACTIVE, in ramp type 1, it is the whole distance to the target's position over the step of 6331h, rounded up
-  pub ticks-straight :
+  -- in HOLD and ACTIVE, in ramp type 1, the ticks to go are the whole distance to the target's position over the step of 6331h, rounded up
+  pub ticks-in-type-one :
       driven (d .state) ≡ true → rampOf (d .block) .kind ≡ pos 1
       → deviceTicksToGo d ≡ roundedUp (distance (d .block .position) (deviceTargetPosition d)) (stepOf (rampOf (d .block) .acceleration .one))
-  -- and each tick takes a whole step off that distance, until none is left
-  pub straight :
+  -- and n ticks move the position by n steps straight toward it, stopping only there
+  pub position-in-type-one :
       driven (d .state) ≡ true → rampOf (d .block) .kind ≡ pos 1 → (n : ℕ)
-      → distance (devicePositionAfter n d) (deviceTargetPosition d) ≡ distance (d .block .position) (deviceTargetPosition d) - n * stepOf (rampOf (d .block) .acceleration .one)
+      → devicePositionAfter n d ≡ moved (deviceTargetPosition d) (n * stepOf (rampOf (d .block) .acceleration .one)) (d .block .position)
   -- in ramp types 2 and 3 no tick crosses zero
   pub uncrossed : (kind : ℕ) → 2 ≤ kind → rampOf (d .block) .kind ≡ pos kind → (n : ℕ) → opposite (devicePositionAfter n d) (devicePositionAfter (suc n) d) ≡ false
   -- in HOLD and ACTIVE bit 8 of the status word is set exactly where no tick is left

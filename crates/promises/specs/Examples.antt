@@ -133,11 +133,11 @@ pub record Witnesses : Type 0 where
       (input (minus 16384) ∷ control 1 ∷ tick ∷ choice 0x6330 2 ∷ time 0x6331 3600000 ∷ time 0x6334 3600000 ∷ input (pos 16384) ∷ [])
       ≡ told (pos 7206322)
   -- and so is that of type 1, which goes straight through zero
-  pub longest-straight :
+  pub longest-in-type-one :
       answer ticksToGo
       (input (minus 16384) ∷ control 1 ∷ tick ∷ choice 0x6330 1 ∷ time 0x6331 3600000 ∷ input (pos 16384) ∷ [])
       ≡ told (pos 7206321)
-  -- no tick of type 1 ends at zero where the step leads past it
+  -- type 1 from 100 ir to -50 ir: no tick ends at zero
   pub through-zero :
       map (λ n. answer position (throughZero ++ tickTimes n)) (0 ∷ 1 ∷ 2 ∷ 3 ∷ 4 ∷ 5 ∷ 6 ∷ [])
       ≡ ir (pos 100 ∷ pos 68 ∷ pos 36 ∷ pos 4 ∷ minus 28 ∷ minus 50 ∷ minus 50 ∷ [])

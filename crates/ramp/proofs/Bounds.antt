@@ -63,9 +63,13 @@ inside {z} h = record { inside = omega (arith, abs-nat z) }
 pub zero-inside : Inside (pos 0)
 zero-inside = record { inside = omega arith }
 
-pub distance-most : (p g : ℤ) → Inside p → Inside g → distance p g ≤ 2 * FULL-POSITION
+-- no farther than by zero
+pub distance-by-zero : (p g : ℤ) → distance p g ≤ natAbs p + natAbs g
 unfolding distance
-distance-most p g h k = omega (arith, sub-nat p g, abs-nat (p -ℤ g), held h, held k)
+distance-by-zero p g = omega (arith, sub-nat p g, abs-nat p, abs-nat g, abs-nat (p -ℤ g))
+
+pub distance-most : (p g : ℤ) → Inside p → Inside g → distance p g ≤ 2 * FULL-POSITION
+distance-most p g h k = omega (arith, distance-by-zero p g)
 
 pub moved-inside : (g : ℤ) (m : ℕ) (p : ℤ) → Inside g → Inside p → Inside (moved g m p)
 moved-inside g m p h k =
@@ -73,14 +77,6 @@ moved-inside g m p h k =
     by-move g m p
     (λ w. inside (record { least = omega arith; most = omega arith }))
     (λ w. inside (record { least = omega arith; most = omega arith }))
-
--- to zero and from it
-pub half-stroke : (p : ℤ) → Inside p → (distance p (pos 0) ≤ FULL-POSITION) × (distance (pos 0) p ≤ FULL-POSITION)
-unfolding distance
-half-stroke p h = (
-  omega (arith, ints, sub-nat p (pos 0), abs-nat (p -ℤ pos 0), held h),
-  omega (arith, ints, sub-nat (pos 0) p, abs-nat (pos 0 -ℤ p), held h),
-)
 
 -- the way on from zero
 pub way-on : {r : Ramp} {t p : ℤ} → Way r t p → Way r t (pos 0)

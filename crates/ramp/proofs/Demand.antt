@@ -6,12 +6,11 @@ use Prim.Native.Nat.{ℕ, _+_, _-_, _*_, _≤_, _<_}
 use native.Mathlib.Omega.{arith}
 use lib.IntN.{ℤ, pos}
 use Rattle.integers.proofs.Linear.{ints}
-use Rattle.integers.proofs.Cases.{clash}
-use Rattle.ramp.specs.Ramp.{halting, stepOf, opposite, distance, moved, halts, stop, stride, tickOf, ticked, roundedUp, ticksToGo, positionAfter, Way}
+use Rattle.ramp.specs.Ramp.{mayHalt, stepOf, opposite, distance, moved, halts, stop, stride, tickOf, ticked, roundedUp, ticksToGo, positionAfter, Way}
 use Rattle.ramp.specs.Demand.{Demand3}
 use Rattle.ramp.specs.declared.Ramp.{Ramp}
-use Rattle.ramp.proofs.Moves.{by-move, moved-distance}
-use Rattle.ramp.proofs.Legs.{Beside, high, low, beside, flip, by-leg, from-zero, halting-ramped, halts-never, stop-at-zero, stop-at-target, one-step}
+use Rattle.ramp.proofs.Moves.{by-move}
+use Rattle.ramp.proofs.Legs.{Beside, high, low, beside, flip, by-side, from-zero, halts-across, halts-beside, halts-never, may-halt-ramped, stop-at-zero, stop-at-target, one-step}
 use Rattle.ramp.proofs.Formula.{kept, ticks-straight, straight, latest, latest-straight}
 use Rattle.ramp.proofs.Travel.{formula, jumps, not-before, stays}
 
@@ -20,11 +19,11 @@ same-side : (g : ℤ) (m : ℕ) (p : ℤ) → Beside g p → Beside p (moved g m
 same-side g m p (high a b) = high b (by-move g m p (λ w. omega (arith, ints)) (λ w. omega (arith, ints)))
 same-side g m p (low a b) = low b (by-move g m p (λ w. omega (arith, ints)) (λ w. omega (arith, ints)))
 
-uncrossed : (r : Ramp) (t p : ℤ) → halting r ≡ true → opposite p (tickOf r t p) ≡ false
+uncrossed : (r : Ramp) (t p : ℤ) → mayHalt r ≡ true → opposite p (tickOf r t p) ≡ false
 unfolding tickOf
 uncrossed r t p k =
-    rw (halting-ramped r k) (beside (same-side (stop r t p) (stride r t p) p
-    (by-leg r t p (λ s. clash k s) (λ h a. rw (stop-at-zero r t p h) (flip (from-zero p))) (λ h b. rw (stop-at-target r t p h) b))))
+    rw (may-halt-ramped r k) (beside (same-side (stop r t p) (stride r t p) p
+    (by-side t p (λ a. rw (stop-at-zero r t p (halts-across r t p k a)) (flip (from-zero p))) (λ b. rw (stop-at-target r t p (halts-beside r t p b)) b))))
 
 -- of two equal positions the later would meet the target at the last tick, and so the earlier before it
 once : {r : Ramp} {t p : ℤ} → Way r t p → (m n : ℕ) → m < n → n ≤ ticksToGo r t p → positionAfter r t p m ≢ positionAfter r t p n
@@ -44,8 +43,8 @@ module _ {r : Ramp} {t p : ℤ} (w : Way r t p) (one : r .kind ≡ pos 1) where
   whole-distance : ticksToGo r t p ≡ roundedUp (distance p t) (stepOf (r .acceleration .one))
   whole-distance = ticks-straight w (rw one) never ∙ rw step
 
-  whole-steps : (n : ℕ) → distance (positionAfter r t p n) t ≡ distance p t - n * stepOf (r .acceleration .one)
-  whole-steps n = rw (straight w (rw one) never n, moved-distance, step)
+  whole-steps : (n : ℕ) → positionAfter r t p n ≡ moved t (n * stepOf (r .acceleration .one)) p
+  whole-steps n = straight w (rw one) never n ∙ rw step
 
 pub demand3 : {r : Ramp} {t p : ℤ} → Way r t p → Demand3 r t p
 unfolding ticked
@@ -56,10 +55,10 @@ demand3 {r} {t} {p} w =
       kept = kept r t p;
       first = not-before w;
       latest = latest w;
-      latest-straight = λ one. latest-straight w (never w one);
+      latest-in-type-one = λ one. latest-straight w (never w one);
       stays = stays w;
       once = once w;
-      ticks-straight = whole-distance w;
-      straight = whole-steps w;
-      uncrossed = λ k n. uncrossed r t (ticked r t p n) k;
+      ticks-in-type-one = whole-distance w;
+      position-in-type-one = whole-steps w;
+      uncrossed = λ kind two e n. uncrossed r t (ticked r t p n) (rw e (omega (arith, ints)));
     }

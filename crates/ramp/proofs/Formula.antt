@@ -10,12 +10,12 @@ use Rattle.integers.specs.Words.{_=?_}
 use Rattle.integers.proofs.Machine.{=?-refl, =?-yes}
 use Rattle.integers.proofs.Cases.{by-cases, by-less, clash}
 use Rattle.ramp.specs.Ramp.{distance, moved, ramped, halts, stride, roundedUp, ticksToZero, ticksToGo, positionAfter, Sound, Way}
-use Rattle.ramp.specs.Demand.{LATEST-TICK, LATEST-TICK-STRAIGHT}
+use Rattle.ramp.specs.Demand.{LATEST-TICK, LATEST-IN-TYPE-ONE}
 use Rattle.ramp.specs.declared.Ramp.{Ramp}
 use Rattle.ramp.proofs.Moves.{arrives, on-the-way, toward-none, distance-self}
 use Rattle.ramp.proofs.Rounding.{enough, least, too-few}
 use Rattle.ramp.proofs.Legs.{at-target, halts-beside, halts-ramped, halts-without-ramp}
-use Rattle.ramp.proofs.Bounds.{stride-paced, distance-most, half-stroke}
+use Rattle.ramp.proofs.Bounds.{stride-paced, distance-by-zero, distance-most}
 
 -- the three ways
 pub by-way {ℓ} : (r : Ramp) (t p : ℤ) {X : Type ℓ} → (ramped r ≡ false → X) → (ramped r ≡ true → halts r t p ≡ false → X) → (halts r t p ≡ true → X) → X
@@ -102,25 +102,27 @@ module _ {r : Ramp} {t p : ℤ} (w : Way r t p) where
       (λ g. kept r t p n g ∙ sym (arrives t _ (pos 0) (enough (distance (pos 0) t) s (n - k) (omega arith))))
 
   -- where n of the longest time's steps are enough, n ticks are
-  slowest : (p g : ℤ) (n : ℕ) → distance p g ≤ n * 298 → roundedUp (distance p g) (stride r t p) ≤ n
-  slowest p g n d = least (distance p g) (strides (w .ramp) t p) n (omega (arith, mul-le-mul-left n (stride-paced (w .ramp) t p .slowest)))
+  ticks-most : (p g : ℤ) (n : ℕ) → distance p g ≤ n * 298 → roundedUp (distance p g) (stride r t p) ≤ n
+  ticks-most p g n d = least (distance p g) (strides (w .ramp) t p) n (omega (arith, mul-le-mul-left n (stride-paced (w .ramp) t p .slowest)))
 
-  -- with no halt they go from end to end at most; type 0 takes one tick
-  pub latest-straight : halts r t p ≡ false → ticksToGo r t p ≤ LATEST-TICK-STRAIGHT
+  -- with no halt the way is at most from end to end; type 0 takes one tick
+  pub latest-straight : halts r t p ≡ false → ticksToGo r t p ≤ LATEST-IN-TYPE-ONE
   latest-straight h =
       by-cases (ramped r)
-      (λ k. omega (arith, ticks-straight k h, slowest p t LATEST-TICK-STRAIGHT (omega (arith, distance-most p t (w .position) (w .target)))))
+      (λ k. omega (arith, ticks-straight k h, ticks-most p t LATEST-IN-TYPE-ONE (omega (arith, distance-most p t (w .position) (w .target)))))
       (λ k. omega (arith, one-to-go r t p k))
 
-  -- and with one over half of the stroke twice
+  -- with a halt it is at most full stroke to zero, and full stroke on
   pub latest : ticksToGo r t p ≤ LATEST-TICK
   unfolding ticksToZero
   latest =
+      let from = w .position .inside in
+      let to = w .target .inside in
       by-cases (halts r t p)
       (λ h. omega (
         arith,
         ticks-halting h,
-        slowest p (pos 0) 3603161 (omega (arith, half-stroke p (w .position) .0)),
-        slowest (pos 0) t 3603161 (omega (arith, half-stroke t (w .target) .1)),
+        ticks-most p (pos 0) 3603161 (omega (arith, distance-by-zero p (pos 0))),
+        ticks-most (pos 0) t 3603161 (omega (arith, distance-by-zero (pos 0) t)),
       ))
       (λ h. omega (arith, latest-straight h))

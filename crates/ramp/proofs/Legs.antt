@@ -1,4 +1,4 @@
--- What the travel asks of `halts`, `stop` and `stride`: on the way to the first stop neither it nor the step changes, and there is no halt in type 1, from zero, nor at the target.
+-- What the travel asks of `halts`, `stop` and `stride`: on the way to the first stop neither it nor the step changes, and there is no halt in types 0 and 1, from zero, nor at the target.
 use mathlib.Core.Bool.{true, false, and-false}
 use mathlib.Core.Path.{_≡_, sym, _∙_}
 use Prim.Native.Nat.{ℕ, _≤_, _<_}
@@ -10,7 +10,7 @@ use Rattle.integers.proofs.Linear.{ints, abs-high, abs-low}
 use Rattle.integers.proofs.Each.{and-split}
 use Rattle.integers.proofs.Machine.{=?-no}
 use Rattle.integers.proofs.Cases.{by-cases, by-less-ℤ, clash, ltZ-same}
-use Rattle.ramp.specs.Ramp.{ramped, halting, sideOf, awayTime, backTime, stepOf, opposite, decelerates, distance, moved, halts, stop, stride}
+use Rattle.ramp.specs.Ramp.{ramped, mayHalt, sideOf, awayTime, backTime, stepOf, opposite, decelerates, distance, moved, halts, stop, stride}
 use Rattle.ramp.specs.declared.Ramp.{Ramp}
 use Rattle.ramp.proofs.Moves.{by-move}
 
@@ -126,7 +126,7 @@ to-target t p q (low a b) (downward c d) =
 
 -- ---- the first stop
 
-pub halts-across : (r : Ramp) (t p : ℤ) → halting r ≡ true → Across t p → halts r t p ≡ true
+pub halts-across : (r : Ramp) (t p : ℤ) → mayHalt r ≡ true → Across t p → halts r t p ≡ true
 unfolding halts
 halts-across r t p k a = simp (k, across a)
 
@@ -134,26 +134,22 @@ pub halts-beside : (r : Ramp) (t p : ℤ) → Beside t p → halts r t p ≡ fal
 unfolding halts
 halts-beside r t p b = rw (beside b)
 
-pub halts-never : (r : Ramp) (t p : ℤ) → halting r ≡ false → halts r t p ≡ false
+pub halts-never : (r : Ramp) (t p : ℤ) → mayHalt r ≡ false → halts r t p ≡ false
 unfolding halts
 halts-never r t p k = simp (k, and-false)
 
 -- with a halt there is a ramp
-pub halting-ramped : (r : Ramp) → halting r ≡ true → ramped r ≡ true
-halting-ramped r k = rw (=?-no (r .kind) (pos 0) (λ e. clash k (rw e)))
+pub may-halt-ramped : (r : Ramp) → mayHalt r ≡ true → ramped r ≡ true
+may-halt-ramped r k = rw (=?-no (r .kind) (pos 0) (λ e. clash k (rw e)))
 
 pub halts-ramped : (r : Ramp) (t p : ℤ) → halts r t p ≡ true → ramped r ≡ true
 unfolding halts
-halts-ramped r t p h = halting-ramped r (and-split (opposite t p) (halting r) h .1)
+halts-ramped r t p h = may-halt-ramped r (and-split (opposite t p) (mayHalt r) h .1)
 
 pub halts-without-ramp : (r : Ramp) (t p : ℤ) → ramped r ≡ false → halts r t p ≡ false
 halts-without-ramp r t p k = by-cases (halts r t p) (λ h. clash (halts-ramped r t p h) k) (λ h. h)
 
--- a way of a type that never halts; one with a halt at zero; one on the target's side
-pub by-leg {ℓ} : (r : Ramp) (t p : ℤ) {X : Type ℓ} → (halting r ≡ false → X) → (halts r t p ≡ true → Across t p → X) → (halts r t p ≡ false → Beside t p → X) → X
-by-leg r t p f g h = by-cases (halting r) (λ k. by-side t p (λ a. g (halts-across r t p k a) a) (λ b. h (halts-beside r t p b) b)) f
-
--- none from zero, nor at the target
+-- no halt from zero, nor at the target
 pub from-zero : (t : ℤ) → Beside t (pos 0)
 from-zero t = by-less-ℤ t (pos 0) (λ l. low (omega (arith, ints)) (omega (arith, ints))) (λ l. high l (omega (arith, ints)))
 
@@ -168,8 +164,8 @@ pub stop-at-target : (r : Ramp) (t p : ℤ) → halts r t p ≡ false → stop r
 unfolding stop
 stop-at-target r t p h = rw h
 
--- a type that never halts has one time, and so one step
-pub one-step : (r : Ramp) (t p : ℤ) → halting r ≡ false → stride r t p ≡ stepOf (r .acceleration .one)
+-- in types 0 and 1 the step is that of 6331h everywhere, and type 0 does not use it
+pub one-step : (r : Ramp) (t p : ℤ) → mayHalt r ≡ false → stride r t p ≡ stepOf (r .acceleration .one)
 unfolding stride awayTime backTime
 one-step r t p k =
     let two = =?-no (r .kind) (pos 2) (λ e. clash (rw e) k) in
@@ -191,8 +187,8 @@ by-tests r t p q s =
           (λ e. rw (s .slows, e));
     }
 
--- in a type that never halts they are the same everywhere
-one-way : (r : Ramp) (t p q : ℤ) → halting r ≡ false → Steady r t p q
+-- in types 0 and 1 they are the same everywhere
+one-way : (r : Ramp) (t p q : ℤ) → mayHalt r ≡ false → Steady r t p q
 one-way r t p q k =
     record {
       stops = stop-at-target r t q (halts-never r t q k) ∙ sym (stop-at-target r t p (halts-never r t p k));
@@ -202,6 +198,8 @@ one-way r t p q k =
 pub steady : (r : Ramp) (t p : ℤ) (m : ℕ) → m < distance p (stop r t p) → Steady r t p (moved (stop r t p) m p)
 steady r t p m h =
     let b = between (stop r t p) m p h in
-    by-leg r t p (one-way r t p _)
-    (λ e a. by-tests r t p _ (rw (stop-at-zero r t p e) (to-zero t p _ a (rw (stop-at-zero r t p e) at b))))
-    (λ e a. by-tests r t p _ (rw (stop-at-target r t p e) (to-target t p _ a (rw (stop-at-target r t p e) at b))))
+    by-cases (mayHalt r)
+    (λ k. by-tests r t p _ (by-side t p
+    (λ a. let e = stop-at-zero r t p (halts-across r t p k a) in rw e (to-zero t p _ a (rw e at b)))
+    (λ a. let e = stop-at-target r t p (halts-beside r t p a) in rw e (to-target t p _ a (rw e at b)))))
+    (one-way r t p _)

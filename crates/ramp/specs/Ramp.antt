@@ -1,4 +1,4 @@
--- Document 01, "Ramp". A position p and a target t are whole numbers in 1/65,536 ir; steps, distances and ticks count from zero up.
+-- Document 01, "Ramp", with wish 3 of document 02. A position p and a target t are whole numbers in 1/65,536 ir; steps, distances and ticks count from zero up.
 use mathlib.Core.Bool.{Bool, not, _&&_, _||_}
 use Prim.Native.Nat.{ℕ, zero, suc, _+_, _-_, _*_, _/_, _≤_, max}
 use lib.IntN.{ℤ, pos, natAbs, _+ℤ_, _-ℤ_}
@@ -13,9 +13,9 @@ use Rattle.ramp.specs.declared.Ramp.{Ramp}
 abbrev pub ramped : Ramp → Bool
 ramped r = not (r .kind =? pos 0)
 
--- types 2 and 3 halt at zero; type 1 goes straight through it
-abbrev pub halting : Ramp → Bool
-halting r = pos 1 <? r .kind
+-- types 2 and 3 halt at zero on the way to its other side; type 1 goes straight through (wish 3)
+abbrev pub mayHalt : Ramp → Bool
+mayHalt r = pos 1 <? r .kind
 
 -- ---- times and steps
 
@@ -64,7 +64,7 @@ moved g m p = if m below distance p g then toward g m p else g
 
 -- the way halts at zero before it goes on to the target: from the far side of zero, in types 2 and 3
 unfoldable pub halts : Ramp → ℤ → ℤ → Bool
-halts r t p = opposite t p && halting r
+halts r t p = opposite t p && mayHalt r
 
 -- where the ticks from p stop first: at zero, or at the target
 unfoldable pub stop : Ramp → ℤ → ℤ → ℤ

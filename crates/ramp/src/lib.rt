@@ -2,6 +2,7 @@
 ghost use mathlib.Core.Path.{_≡_};
 ghost use lib.IntN.{natAbs};
 ghost use Rattle.ramp.specs.Ramp.{
+  mayHalt,
   sideOf,
   awayTime,
   backTime,
@@ -139,9 +140,9 @@ fn ramped(ramp: Ramp) -> bool
     ramp.kind != 0
 }
 
-// Types 2 and 3; type 1 has one rate and no reason to pause.
-fn halting(ramp: Ramp) -> bool
-    ensures { λ r. ⌜ r ≡ Ramps.halting ramp ⌝ }
+// Types 2 and 3; type 1 has one rate and goes straight through zero.
+fn may_halt(ramp: Ramp) -> bool
+    ensures { λ r. ⌜ r ≡ mayHalt ramp ⌝ }
 {
     1 < ramp.kind
 }
@@ -149,7 +150,7 @@ fn halting(ramp: Ramp) -> bool
 fn halts(ramp: Ramp, t: i64, p: i64) -> bool
     ensures { λ r. ⌜ r ≡ Ramps.halts ramp t p ⌝ }
 {
-    opposite(t, p) && halting(ramp)
+    opposite(t, p) && may_halt(ramp)
 }
 
 fn stop(ramp: Ramp, t: i64, p: i64) -> i64

@@ -16,5 +16,5 @@ halts-spec =
     (tie.spec
     (λ c κs. search needs)
     (λ c κs. search needs)
-    (λ c. c .halting .ensures ∙ simp (sides (c .before .before) (c .before .if1 .taken)))
+    (λ c. c .may-halt .ensures ∙ simp (sides (c .before .before) (c .before .if1 .taken)))
     (λ c. c .if1 .left ∙ simp (sides (c .before) (c .if1 .left))))
