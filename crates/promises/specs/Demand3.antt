@@ -59,7 +59,9 @@ pub record Demand3 (d : Device) : Type 0 where
       driven (d .state) ≡ true → rampOf (d .block) .kind ≡ pos 1 → (n : ℕ)
       → devicePositionAfter n d ≡ moved (deviceTargetPosition d) (n * stepOf (rampOf (d .block) .acceleration .one)) (d .block .position)
   -- in ramp types 2 and 3 no tick crosses zero
-  pub uncrossed : (kind : ℕ) → 2 ≤ kind → rampOf (d .block) .kind ≡ pos kind → (n : ℕ) → opposite (devicePositionAfter n d) (devicePositionAfter (suc n) d) ≡ false
+  pub uncrossed :
+      (kind : ℕ) → 2 ≤ kind → rampOf (d .block) .kind ≡ pos kind → (n : ℕ)
+      → opposite (devicePositionAfter n d) (devicePositionAfter (suc n) d) ≡ false
   -- in HOLD and ACTIVE bit 8 of the status word is set exactly where no tick is left
   pub arrived : driven (d .state) ≡ true → deviceTicksToGo d ≡ 0 → bitEight (statusOf d) ≡ 1
   pub under-way : driven (d .state) ≡ true → 0 < deviceTicksToGo d → bitEight (statusOf d) ≡ 0
