@@ -15,21 +15,11 @@ use Rattle.integers.proofs.Linear.{ints}
 use Rattle.integers.proofs.Each.{and-split, and-both, each-at, each-all}
 use Rattle.objects.specs.Numbers.{FULL-POSITION}
 use Rattle.objects.specs.Places.{SETTINGS, SET-POINT, UPPER-LIMIT, LOWER-LIMIT}
-use Rattle.objects.specs.Table.{objects, rowAt, InRange}
+use Rattle.objects.specs.Table.{objects, rowAt, liesIn, inRow, InRange}
+use Rattle.objects.proofs.Rules.{lies-within, within-lies}
 use Rattle.block.specs.Block.{at, withSetpoint, withSettings, atPosition, freshBlock}
-use Rattle.block.specs.Sound.{liesIn, inRow, soundSettings, soundBlock, Sound}
+use Rattle.block.specs.Sound.{soundSettings, soundBlock, Sound}
 use Rattle.block.specs.declared.Block.{Block}
-
-pub lies-within : (low high x : ℤ) → liesIn low high x ≡ true → Within low high x
-unfolding liesIn
-lies-within low high x e = let s = and-split (leZ low x) (leZ x high) e in omega (arith, ints)
-
-pub within-lies : {low high x : ℤ} → Within low high x → liesIn low high x ≡ true
-unfolding liesIn
-within-lies {low} {high} {x} w =
-    let p : leZ low x ≡ true = omega (arith, ints) in
-    let q : leZ x high ≡ true = omega (arith, ints) in
-    and-both p q
 
 -- ---- the settings
 

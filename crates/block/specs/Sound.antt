@@ -7,18 +7,9 @@ use lib.ListN.{length}
 use Rattle.integers.specs.Words.{minus, each, _≤?_, _is_}
 use Rattle.objects.specs.Numbers.{FULL-POSITION}
 use Rattle.objects.specs.Places.{SETTINGS, SET-POINT, UPPER-LIMIT, LOWER-LIMIT}
-use Rattle.objects.specs.Table.{rowAt}
-use Rattle.objects.specs.declared.Row.{Row}
+use Rattle.objects.specs.Table.{rowAt, liesIn, inRow}
 use Rattle.block.specs.Block.{at}
 use Rattle.block.specs.declared.Block.{Block}
-
--- x lies from `low` to `high`, ends included
-unfoldable pub liesIn : ℤ → ℤ → ℤ → Bool
-liesIn low high x = low ≤? x && x ≤? high
-
--- x lies in the range of a row
-abbrev pub inRow : Row → ℤ → Bool
-inRow row x = liesIn (row .low) (row .high) x
 
 -- so many settings, each in its row's range, the lower limit not above the upper
 unfoldable pub soundSettings : List ℤ → Bool

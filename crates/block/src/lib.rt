@@ -5,7 +5,7 @@ ghost use Rattle.block.specs.Block.{setting, atPosition, withSetpoint, w
 ghost use Rattle.block.specs.Target.{inputOf, clampTo, clampToStroke, scaledBy, targetFrom, targetOf, targetPosition};
 ghost use Rattle.block.specs.Command.{wholeOf, bandedBy, commandOf};
 ghost use Rattle.block.specs.Command as Commands;
-ghost use Rattle.block.specs.Sound.{liesIn, soundSettings, soundBlock, Sound};
+ghost use Rattle.block.specs.Sound.{soundSettings, soundBlock, Sound};
 ghost use Rattle.block.specs.Travel.{rampOf, tickBlock, jumpBlock, ticksToGoOf};
 ghost use Rattle.block.specs.Asked.{ASetting, Scaling, Chain, Band};
 use objects::A_SIDE;
@@ -204,20 +204,13 @@ pub fn command(block: Block) -> i64
 
 // ---- soundness
 
-pub fn lies_in(low: i64, high: i64, x: i64) -> bool
-    ensures { λ r. ⌜ r ≡ liesIn low high x ⌝ }
-{
-    low <= x && x <= high
-}
-
 // Each of the settings is in its row's range, and the limits are not crossed.
 pub fn sound_settings(settings: [i64; SETTINGS]) -> bool
     ensures { λ r. ⌜ r ≡ soundSettings settings ⌝ }
 {
     let mut place = 0;
     while place < SETTINGS {
-        let row = objects::row_at(place);
-        if !lies_in(row.low, row.high, settings[place]) {
+        if !objects::in_range(place, settings[place]) {
             return false;
         }
         place += 1;
@@ -229,9 +222,8 @@ pub fn is_sound(block: Block) -> bool
     ensures { λ r. ⌜ r ≡ soundBlock block ⌝ }
 {
     let settings = block.settings;
-    let row = objects::row_at(SET_POINT);
-    lies_in(-FULL_POSITION, FULL_POSITION, block.position)
-        && lies_in(row.low, row.high, block.setpoint)
+    objects::lies_in(-FULL_POSITION, FULL_POSITION, block.position)
+        && objects::in_range(SET_POINT, block.setpoint)
         && sound_settings(settings)
 }
 

@@ -6,20 +6,38 @@ use Prim.Native.Nat.{ℕ, suc, _+_, _-_, _≤_, _<_}
 use native.Mathlib.Omega.{arith}
 use borrow.Author.Tests.{eqb-true, ne-eqb, ltb-true, ltb-false}
 use Rattle.integers.specs.Words.{each, _is_, _=?_}
-use lib.IntN.{pos}
+use lib.IntN.{ℤ, pos}
 use lib.ListN.{length}
+use lib.Signed.{leZ}
 use Rattle.integers.proofs.Cases.{by-cases, by-test, apart}
-use Rattle.integers.proofs.Each.{and-split, each-at}
+use Rattle.integers.specs.Range.{Within}
+use Rattle.integers.proofs.Linear.{ints}
+use Rattle.integers.proofs.Each.{and-split, and-both, each-at}
 use Rattle.integers.proofs.Machine.{=?-yes}
 use lib.Dec.{eqb, ltb}
 use Rattle.objects.specs.Places.{RECEIVE-MAP, TRANSMIT-MAP, WRITABLE, ROWS}
-use Rattle.objects.specs.Table.{VARIABLE, MAP, I8, U32, U8, objects, columnsAt, rowAt}
+use Rattle.objects.specs.Table.{VARIABLE, MAP, I8, U32, U8, objects, columnsAt, rowAt, liesIn}
 use Rattle.objects.specs.Lookup.{placeFrom, placeOf, recordEntry, entryAt}
 use Rattle.objects.specs.declared.Columns.{Columns}
 use Rattle.objects.specs.declared.Place.{Place}
 use Rattle.objects.specs.declared.Place.the-variants.{At, Nowhere}
 use Rattle.objects.specs.declared.Entry.{Entry}
 use Rattle.objects.specs.declared.Entry.the-variants.{Value}
+
+-- ---- the test of a range
+
+pub lies-within : (low high x : ℤ) → liesIn low high x ≡ true → Within low high x
+unfolding liesIn
+lies-within low high x e = let s = and-split (leZ low x) (leZ x high) e in omega (arith, ints)
+
+pub within-lies : {low high x : ℤ} → Within low high x → liesIn low high x ≡ true
+unfolding liesIn
+within-lies {low} {high} {x} w =
+    let p : leZ low x ≡ true = omega (arith, ints) in
+    let q : leZ x high ≡ true = omega (arith, ints) in
+    and-both p q
+
+-- ---- places
 
 abbrev pub isAt : Place → ℕ → Bool
 isAt (At place) k = place is k

@@ -1,10 +1,10 @@
 -- Document 01, "Objects", with the maps of wish 2 of document 02: the table, a row for each value, the stored settings first and in tag order.
-use mathlib.Core.Bool.{Bool, _||_}
+use mathlib.Core.Bool.{Bool, _&&_, _||_}
 use mathlib.Core.List.{List, [], _∷_}
 use Prim.Native.Nat.{ℕ}
 use lib.IntN.{ℤ, pos}
 use lib.ListN.{getD}
-use Rattle.integers.specs.Words.{minus, _is_}
+use Rattle.integers.specs.Words.{minus, _≤?_, _is_}
 use Rattle.integers.specs.Range.{Within}
 use Rattle.objects.specs.Places.{RAMP-TYPE, DEAD-BAND-TYPE}
 use Rattle.objects.specs.declared.Row.{Row}
@@ -124,6 +124,14 @@ rowAt place =
       writable = columns .5 is RW;
       choice = isChoice place;
     }
+
+-- x lies from `low` to `high`, ends included
+unfoldable pub liesIn : ℤ → ℤ → ℤ → Bool
+liesIn low high x = low ≤? x && x ≤? high
+
+-- x lies in the range of a row
+abbrev pub inRow : Row → ℤ → Bool
+inRow row x = liesIn (row .low) (row .high) x
 
 -- a value in the range of the object at a place
 abbrev pub InRange : ℕ → ℤ → Type 0

@@ -1,7 +1,7 @@
 // The object table of document 01. What is read, written, kept sound, stored and loaded goes by its rows.
 ghost use mathlib.Core.Path.{_≡_};
 ghost use Prim.Native.Nat.{_+_, _-_};
-ghost use Rattle.objects.specs.Table.{columnsAt, rowAt};
+ghost use Rattle.objects.specs.Table.{columnsAt, rowAt, liesIn, inRow};
 ghost use Rattle.objects.specs.Table as Table;
 ghost use Rattle.objects.specs.Lookup.{placeOf, recordEntry, entryAt};
 ghost use Rattle.objects.specs.Asked.{InTable, InRun};
@@ -248,6 +248,22 @@ pub fn row_at(place: usize) -> Row
         writable: columns.5 == RW,
         choice: is_choice(place),
     }
+}
+
+// From `low` to `high`, ends included.
+pub fn lies_in(low: i64, high: i64, x: i64) -> bool
+    ensures { λ r. ⌜ r ≡ liesIn low high x ⌝ }
+{
+    low <= x && x <= high
+}
+
+// In the range of the row at a place.
+pub fn in_range(place: usize, x: i64) -> bool
+    requires { ⌜ InTable place ⌝ }
+    ensures { λ r. ⌜ r ≡ inRow (rowAt place) x ⌝ }
+{
+    let row = row_at(place);
+    lies_in(row.low, row.high, x)
 }
 
 // The index of the object at a place, by their names; a map has five places.

@@ -1,14 +1,14 @@
 -- Each example is computed: with every definition on its way from fresh unfolded, both sides come to the same value.
 use mathlib.Core.Path.{refl}
 use Rattle.integers.specs.Words.{each}
-use Rattle.objects.specs.Table.{objects, isSigned}
+use Rattle.objects.specs.Table.{objects, isSigned, liesIn}
 use Rattle.objects.specs.Lookup.{placeFrom, placeOf, recordEntry, entryAt}
 use Rattle.coding.specs.Bytes.{fourBytes}
 use Rattle.coding.specs.Coding.{span, inSpan, valueOf, numberOf}
 use Rattle.ramp.specs.Ramp.{awayTime, backTime, stepOf, opposite, decelerates, distance, toward, moved, halts, stop, stride, tickOf, roundedUp, ticksToZero, ticksToGo}
 use Rattle.block.specs.Block.{freshBlock}
 use Rattle.block.specs.Command.{wholeOf, banded, bandedBy, commandOf}
-use Rattle.block.specs.Sound.{liesIn, soundSettings, soundBlock}
+use Rattle.block.specs.Sound.{soundSettings, soundBlock}
 use Rattle.block.specs.Target.{inputOf, clampTo, clampToStroke, scaledBy, targetFrom, targetOf, targetPosition}
 use Rattle.block.specs.Travel.{tickBlock, ticksToGoOf}
 use Rattle.device.specs.Device.{freshDevice}

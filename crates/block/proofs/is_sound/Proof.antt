@@ -7,8 +7,8 @@ use lib.IntN.{pos}
 use Rattle.integers.specs.Words.{minus}
 use Rattle.objects.specs.Numbers.{FULL-POSITION}
 use Rattle.objects.specs.Places.{SET-POINT}
-use Rattle.objects.specs.Table.{rowAt}
-use Rattle.block.specs.Sound.{liesIn, inRow, soundBlock}
+use Rattle.objects.specs.Table.{rowAt, liesIn, inRow}
+use Rattle.block.specs.Sound.{soundBlock}
 use Rattle.block.specs.declared.Block.{Block}
 use Rattle.block.proofs.is_sound.Statement.{statement}
 use Rattle.block.proofs.is_sound.Tie as tie
@@ -16,16 +16,15 @@ use Rattle.block.proofs.is_sound.Tie as tie
 abbrev firstTwo : Block → Bool
 firstTwo b = liesIn (minus FULL-POSITION) (pos FULL-POSITION) (b .position) && inRow (rowAt SET-POINT) (b .setpoint)
 
-first : (c : tie.Joined1) → c .if1 .if2 ≡ firstTwo (c .before .before .before .before .before .args .block)
+first : (c : tie.Joined1) → c .if1 .if2 ≡ firstTwo (c .before .before .before .before .args .block)
 first c =
     let one = c .before in
-    let row = one .before .before .row-at in
-    let b = one .before .before .before .before .args .block in
+    let b = one .before .before .before .args .block in
     let position : one .lies-in .result ≡ liesIn (minus FULL-POSITION) (pos FULL-POSITION) (b .position) = one .lies-in .ensures ∙ search needs in
     ⊎-elim
     (λ w.
-    let e : w .4 .result ≡ inRow (row .result) (b .setpoint) = w .4 .ensures ∙ search needs in
-    w .5 ∙ e ∙ simp (row .ensures, sym position ∙ w .0 .taken))
+    let e : w .2 .result ≡ inRow (rowAt SET-POINT) (b .setpoint) = w .2 .ensures ∙ search needs in
+    w .3 ∙ e ∙ simp (sym position ∙ w .0 .taken))
     (λ w. w .1 ∙ w .0 .left ∙ simp (sym position ∙ w .0 .left))
     (c .if1 .came)
 
@@ -34,7 +33,6 @@ unfolding soundBlock
 is-sound-spec =
     tie.close
     (tie.spec
-    (λ c κs. search needs)
     (λ c. search needs)
     (λ c κs. search needs)
     (λ c κs. search needs)

@@ -10,10 +10,10 @@ use lib.IntN.{ℤ}
 use lib.ListN.{length}
 use Rattle.integers.specs.Words.{each}
 use Rattle.integers.proofs.Each.{each-none, each-more, each-fails}
-use Rattle.objects.specs.Table.{rowAt}
+use Rattle.objects.specs.Table.{rowAt, inRow}
 use Rattle.objects.specs.Places.{SETTINGS}
 use Rattle.block.specs.Block.{at}
-use Rattle.block.specs.Sound.{inRow, soundSettings}
+use Rattle.block.specs.Sound.{soundSettings}
 use Rattle.block.proofs.sound_settings.Statement.{statement}
 use Rattle.block.proofs.sound_settings.Tie as tie
 
@@ -26,12 +26,8 @@ Inv-loop settings place₀ place = (place ≤ SETTINGS) × (each place (inRange 
 abbrev μ-loop : tie.MeasureT-loop
 μ-loop settings place₀ place = SETTINGS - place
 
-test : (c : tie.After-lies-in Inv-loop μ-loop) → let l = c .before .before .before .before .before .before in c .lies-in .result ≡ inRange (l .before .args .t1) (l .loop .place)
-test c =
-    let l = c .before .before .before .before .before .before in
-    let row = c .before .before .before .before .row-at in
-    let e : c .lies-in .result ≡ inRow (row .result) (at (l .before .args .t1) (l .loop .place)) = c .lies-in .ensures ∙ search needs in
-    e ∙ simp (row .ensures)
+test : (c : tie.After-in-range Inv-loop μ-loop) → let l = c .before .before .before in c .in-range .result ≡ inRange (l .before .args .t1) (l .loop .place)
+test c = c .in-range .ensures ∙ search needs
 
 long : (s : tie.Start Inv-loop μ-loop) → length (s .args .t1) ≡ SETTINGS
 long s = search needs
@@ -44,16 +40,15 @@ sound-settings-spec =
     Inv-loop
     μ-loop
     (λ c. (search needs, each-none _))
-    (λ c κs. search needs)
     (λ c. search needs)
     (λ c. search needs)
     (λ c κs. search needs)
     (λ c.
-    let l = c .before .before .before .before .before .before .before in
+    let l = c .before .before .before .before in
     simp (long (l .before), each-fails SETTINGS (inRange (l .before .args .t1)) (l .loop .place) (omega arith) (sym (test (c .before)) ∙ not-true _ (c .if1 .taken))))
     (λ c. search needs)
     (λ c. search needs)
-    (λ c. (search needs, each-more _ _ (c .before .before .before .before .before .before .before .loop .inv .1) (sym (test (c .before)) ∙ not-false _ (c .if1 .left))))
+    (λ c. (search needs, each-more _ _ (c .before .before .before .before .loop .inv .1) (sym (test (c .before)) ∙ not-false _ (c .if1 .left))))
     (λ c. search needs)
     (λ c. search needs)
     (λ c.

@@ -2,9 +2,9 @@
 use mathlib.Core.Path.{_∙_}
 use borrow.Author.Needs.{needs}
 use Rattle.integers.proofs.Machine.{le-told}
-use Rattle.block.specs.Sound.{liesIn}
-use Rattle.block.proofs.lies_in.Statement.{statement}
-use Rattle.block.proofs.lies_in.Tie as tie
+use Rattle.objects.specs.Table.{liesIn}
+use Rattle.objects.proofs.lies_in.Statement.{statement}
+use Rattle.objects.proofs.lies_in.Tie as tie
 
 pub lies-in-spec : {M : Type 1} → statement M
 unfolding liesIn
