@@ -1,4 +1,4 @@
-/* `second cover`: what of document 01 and wishes 1 to 3 of document 02 an event file has
+/* `second cover`: what of document 01 and wishes 1 to 4 of document 02 an event file has
  * reached. */
 #include <inttypes.h>
 #include <stdarg.h>
@@ -79,12 +79,12 @@ static void count_control(const struct seen *seen, uint16_t word)
     follow_reset_edge(seen, word);
 }
 
-/* The command that was told; its result is 0 exactly within the band. */
+/* The command that was told without dither: it is 0 exactly within the band. */
 static void count_command(const struct device *device, int64_t command)
 {
     const int64_t *setting = device->setting;
     int64_t r = device->position / PER_IR;
-    if (device->state == DISABLED || device->state == FAULT)
+    if (device->state == DISABLED || device->state == FAULT || device->dither[DITHER_TYPE] != 0)
         return;
     enum band band = command > 0 ? BAND_POSITIVE : command < 0 ? BAND_NEGATIVE : BAND_INSIDE;
     counts.band[setting[DEAD_BAND_TYPE]][band]++;
@@ -102,10 +102,37 @@ static uint16_t word_at(const uint8_t *bytes)
     return (uint16_t)(bytes[0] | bytes[1] << 8);
 }
 
+uint32_t number_at(const uint8_t *bytes)
+{
+    return word_at(bytes) | (uint32_t)word_at(&bytes[2]) << 16;
+}
+
+static size_t size_of_write(uint8_t command)
+{
+    static const uint8_t commands[] = {WRITE_1, WRITE_2, WRITE_3, WRITE_4};
+    for (size_t i = 0; i < sizeof commands; i++)
+        if (commands[i] == command)
+            return i + 1;
+    return 0;
+}
+
+struct request request_of(const struct seen *seen)
+{
+    const uint8_t *bytes = seen->record->bytes;
+    const uint8_t *reply = seen->outcome->bytes;
+    return (struct request){
+        .command = bytes[0],
+        .index = word_at(&bytes[1]),
+        .sub = bytes[3],
+        .data = number_at(&bytes[4]),
+        .code = reply[0] == ABORT ? number_at(&reply[4]) : 0,
+        .size = size_of_write(bytes[0]),
+    };
+}
+
 static void count_abort(const struct seen *seen, const struct object *object)
 {
-    const uint8_t *reply = seen->outcome->bytes;
-    uint32_t code = word_at(&reply[4]) | (uint32_t)word_at(&reply[6]) << 16;
+    uint32_t code = request_of(seen).code;
     for (size_t i = 0; i < ABORT_CODES; i++)
         if ((uint32_t)abort_codes[i] == code)
             counts.abort[i]++;
@@ -155,6 +182,7 @@ static void count_sdo(const struct seen *seen)
         count_read(seen, object);
     }
     count_map_request(seen);
+    count_dither_request(seen);
     count_exchanges(seen);
 }
 
@@ -171,6 +199,7 @@ static void count_event(const struct seen *seen)
     count_image_event(seen);
     count_pdo_event(seen);
     count_ramp_event(seen);
+    count_dither_event(seen);
     count_refusals(seen);
     switch (record->kind) {
     case EVENT_FRESH:
@@ -271,6 +300,8 @@ static void list_all(void)
     list_length_items();
     list_map_items();
     list_pdo_items();
+    list_dither_items();
+    list_dither_object_items();
     for (size_t i = 0; i < EXAMPLES; i++)
         list_item(counts.example[i], "example-%s", example_names[i]);
     list_image_items();

@@ -123,47 +123,7 @@ static const uint16_t no_objects[] = {0x15ff, 0x1601, 0x1400, 0x19ff, 0x1a01, 0x
 enum { NO_OBJECTS = sizeof no_objects / sizeof no_objects[0] };
 static uint64_t no_object_counts[NO_OBJECTS];
 
-/* ---- One request ---- */
-
-struct request {
-    uint8_t command;
-    uint16_t index;
-    uint8_t sub;
-    uint32_t data;
-    uint32_t code; /* of the abort; 0 for none */
-    size_t size;   /* of a write; 0 for a read */
-};
-
-static uint32_t number_at(const uint8_t *bytes)
-{
-    uint32_t number = 0;
-    for (size_t i = 0; i < 4; i++)
-        number |= (uint32_t)bytes[i] << (8 * i);
-    return number;
-}
-
-static size_t size_of_write(uint8_t command)
-{
-    static const uint8_t commands[SIZE_MOST] = {WRITE_1, WRITE_2, WRITE_3, WRITE_4};
-    for (size_t i = 0; i < SIZE_MOST; i++)
-        if (commands[i] == command)
-            return i + 1;
-    return 0;
-}
-
-static struct request request_of(const struct seen *seen)
-{
-    const uint8_t *bytes = seen->record->bytes;
-    const uint8_t *reply = seen->outcome->bytes;
-    return (struct request){
-        .command = bytes[0],
-        .index = (uint16_t)(bytes[1] | bytes[2] << 8),
-        .sub = bytes[3],
-        .data = number_at(&bytes[4]),
-        .code = reply[0] == ABORT ? number_at(&reply[4]) : 0,
-        .size = size_of_write(bytes[0]),
-    };
-}
+/* ---- Entries ---- */
 
 static bool is_good_entry(enum map_kind kind, uint32_t entry)
 {

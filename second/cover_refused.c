@@ -107,11 +107,19 @@ static const char *const broken_names[BROKEN_KINDS] = {
     "map-count-255",
     "map-entry-of-the-other-direction",
     "map-entry-0-counted",
+    "dither-above-range",
+    "dither-minus-1",
+    "dither-most",
+    "dither-least",
+    "DISABLED-with-phase-1",
+    "FAULT-with-phase-4294967295",
     "state-255",
 };
 enum { SETTING_WAYS = BROKEN_SETTING_LEAST + 1 };
 static const char *const setting_way_names[SETTING_WAYS] = {"above-range", "below-range", "most",
                                                             "least"};
+static const char *const dither_way_names[SETTING_WAYS] = {"above-range", "minus-1", "most",
+                                                           "least"};
 
 static struct {
     uint64_t call[UNSOUND_KINDS][CALLS];
@@ -122,6 +130,7 @@ static struct {
     uint64_t call[BROKEN_KINDS][CALLS];
     uint64_t state[BROKEN_KINDS][STATES];
     uint64_t setting[SETTINGS][SETTING_WAYS];
+    uint64_t dither[DITHER_VALUES][SETTING_WAYS];
     uint64_t map[MAPS][BROKEN_KINDS];
     uint64_t map_entry[MAPS][MAP_ENTRIES][BROKEN_KINDS];
     uint64_t not_counted[MAPS]; /* an entry of the other direction that is not counted */
@@ -170,6 +179,8 @@ static void count_broken(size_t way, const struct seen *seen, uint32_t call)
     broken_counts.state[way][seen->before->state]++;
     if (way < SETTING_WAYS)
         broken_counts.setting[seen->record->word % SETTINGS][way]++;
+    if (way >= BROKEN_DITHER_ABOVE && way <= BROKEN_DITHER_LEAST)
+        broken_counts.dither[seen->record->word % DITHER_VALUES][way - BROKEN_DITHER_ABOVE]++;
     if (is_map_way(way))
         count_broken_map(way, seen, call);
 }
@@ -287,6 +298,14 @@ static void list_not_sound(void)
                       (unsigned)object_of_setting(place)->index, setting_way_names[way]);
 }
 
+static void list_broken_dither(void)
+{
+    for (size_t place = 0; place < DITHER_VALUES; place++)
+        for (size_t way = 0; way < SETTING_WAYS; way++)
+            list_item(broken_counts.dither[place][way], "broken-%04X-%s",
+                      (unsigned)object_of_dither(place)->index, dither_way_names[way]);
+}
+
 static void list_broken_maps(void)
 {
     static const unsigned indexes[MAPS] = {0x1600, 0x1a00};
@@ -326,6 +345,7 @@ void list_refusal_items(void)
 {
     list_requests();
     list_not_sound();
+    list_broken_dither();
     list_broken_maps();
     list_sound();
 }

@@ -384,6 +384,7 @@ static void scene_locked(struct maker *m)
 
 /* ---- Scenes: dead band ---- */
 
+/* Mostly without dither. */
 static void scene_dead_band(struct maker *m)
 {
     int64_t type = one_in(m, 4) ? 0 : 1;
@@ -392,6 +393,8 @@ static void scene_dead_band(struct maker *m)
     steer_to_hold(m);
     plain_scaling(m);
     emit_setting(m, RAMP_TYPE, 0);
+    if (m->run.device.dither[DITHER_TYPE] != 0 && !one_in(m, 4))
+        emit_write(m, object_of_dither(DITHER_TYPE), 0);
     emit_setting(m, DEAD_BAND_TYPE, type);
     emit_setting(m, DEAD_BAND_THRESHOLD, threshold);
     emit_setting(m, DEAD_BAND_A_SIDE, side);
@@ -426,50 +429,57 @@ static const struct {
     void (*play)(struct maker *m);
 } scenes[] = {
     /* SDO; a scene_wrong_length is three events and more */
-    {95, scene_write_edge},
-    {120, scene_sweep_entries},
-    {40, scene_write_size},
+    {70, scene_write_edge},
+    {135, scene_sweep_entries},
+    {30, scene_write_size},
     {15, scene_wrong_length},
-    {70, scene_read},
+    {40, scene_read},
     {15, scene_read_command},
-    {50, scene_any_command},
-    {30, scene_unknown_index},
+    {40, scene_any_command},
+    {24, scene_unknown_index},
     {30, scene_sdo_refused},
-    {20, scene_limits},
-    {50, scene_range_end},
+    {14, scene_limits},
+    {38, scene_range_end},
     /* states */
     {30, scene_control},
     {10, scene_fault},
-    {10, scene_reset},
+    {6, scene_reset},
     {2, scene_fresh},
     /* ramps; a scene_ramp is some twenty events, a scene_across_zero some thirty */
     {5, scene_scaling},
-    {50, scene_jump},
+    {36, scene_jump},
     {20, scene_ticks},
-    {40, scene_tick},
-    {40, scene_target},
-    {24, scene_ramp},
+    {20, scene_tick},
+    {28, scene_target},
+    {12, scene_ramp},
     {1, scene_at_once},
     {12, scene_across_zero},
-    {10, scene_locked},
-    {8, scene_dead_band},
+    {6, scene_locked},
+    {4, scene_dead_band},
     /* image */
     {15, scene_store},
-    {30, scene_load},
-    {20, scene_append},
+    {28, scene_load},
+    {22, scene_append},
     {24, scene_loaded_value},
-    {46, scene_damage},
+    {42, scene_damage},
     {30, scene_find},
-    /* refusals; a scene_broken is thirteen events and more */
-    {45, scene_wide},
+    /* refusals; a scene_broken is nineteen events or four, and more */
+    {42, scene_wide},
     {10, scene_no_fault},
     {12, scene_unsound},
     {18, scene_broken},
     /* process data; a scene_process_data is some twelve events */
-    {65, scene_process_data},
+    {64, scene_process_data},
     {20, scene_any_pdo},
+    /* dither; a scene_dither_objects is some eight events, each other twenty to forty */
+    {2, scene_dither_corners},
+    {4, scene_dither_band},
+    {6, scene_dither_phase},
+    {3, scene_dither_moves},
+    {12, scene_dither_objects},
+    {1, scene_dither_beside},
     /* the rest */
-    {20, scene_query},
+    {12, scene_query},
     {5, scene_unknown_kind},
 };
 enum { SCENES = sizeof scenes / sizeof scenes[0] };

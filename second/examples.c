@@ -1,4 +1,4 @@
-/* `second examples`: the worked examples of document 01, and some of wishes 2 and 3 of document
+/* `second examples`: the worked examples of document 01, and some of wishes 2 to 4 of document
  * 02, as events, by hand. */
 #include <stdio.h>
 #include <string.h>
@@ -291,6 +291,56 @@ static void example_send(void)
     send(3); /* 0f 01 and one byte as it was */
 }
 
+/* Once round, with the command at each quarter of the phase, and back to 0. */
+static void tell_quarters(void)
+{
+    for (int i = 0; i < 4; i++) {
+        tick(1);
+        query();
+    }
+}
+
+/* With 250 Hz a tick is a quarter of the period. */
+static void example_dither_by_quarters(void)
+{
+    fresh_in_hold();
+    set(0x6362, 250);
+    set(0x6361, 1024);
+    set(0x6360, 1);
+    query();         /* command 1024 */
+    tell_quarters(); /* 1024, -1024, -1024, 1024 */
+    set(0x6360, 2);
+    query();         /* 0 */
+    tell_quarters(); /* 1024, 0, -1024, 0 */
+    set(0x6361, 1);
+    tell_quarters(); /* 1, 0, -1, 0 */
+}
+
+/* With 1 Hz a tick is 4294967 of the phase. */
+static void example_dither_by_hertz(void)
+{
+    fresh_in_hold();
+    set(0x6360, 2);
+    set(0x6361, 1024);
+    set(0x6362, 1);
+    jump(250); /* 74 short of the quarter: x is 16383 */
+    query();   /* command 1023 */
+    tick(1);
+    query(); /* 1019 */
+    jump(250);
+    query();          /* x is 32833: -4, not -5 */
+    jump(4294967295); /* as far as one tick back: x is 32767 */
+    query();          /* 0 */
+    set(0x6360, 1);
+    query(); /* 1024 */
+    tick(1);
+    query();    /* -1024 */
+    control(7); /* ACTIVE: the phase goes on */
+    tick(1);
+    control(0); /* DISABLED: it is 0 */
+    query();    /* 0 */
+}
+
 /* Ends fresh, so that a made file may follow as if from the start. */
 int mode_examples(void)
 {
@@ -306,6 +356,8 @@ int mode_examples(void)
     example_end_to_end(1, 7206321);
     example_end_to_end(2, 7206322); /* a halt at zero */
     example_end_to_end(3, 7206322);
+    example_dither_by_quarters();
+    example_dither_by_hertz();
     fresh();
     return EXIT_GOOD;
 }

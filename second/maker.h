@@ -39,6 +39,12 @@ enum sweep {
     SWEEP_RECEIVES,
     SWEEP_RECEIVED_WORDS,
     SWEEP_SENDS,
+    SWEEP_DITHER_TELLS,
+    SWEEP_DITHER_CORNERS,
+    SWEEP_DITHER_BANDS,
+    SWEEP_DITHER_PHASES,
+    SWEEP_DITHER_MOVES,
+    SWEEP_DITHER_OBJECTS,
     SWEEPS
 };
 
@@ -105,7 +111,7 @@ void scene_target(struct maker *m);
 void plain_scaling(struct maker *m);
 
 /* Scenes of other files than events.c: of ramps across zero, of the image, of what is refused,
- * of process data. */
+ * of process data, of dither. */
 void scene_at_once(struct maker *m);
 void scene_across_zero(struct maker *m);
 void scene_store(struct maker *m);
@@ -125,5 +131,11 @@ void scene_receive(struct maker *m);
 void scene_received_words(struct maker *m);
 void scene_send(struct maker *m);
 void scene_any_pdo(struct maker *m);
+void scene_dither_corners(struct maker *m);
+void scene_dither_band(struct maker *m);
+void scene_dither_phase(struct maker *m);
+void scene_dither_moves(struct maker *m);
+void scene_dither_objects(struct maker *m);
+void scene_dither_beside(struct maker *m);
 
 #endif

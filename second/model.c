@@ -1,5 +1,6 @@
-/* The device of document 01, in the order of that paper, with wishes 1 to 3 of document 02;
- * process data, wish 2, stands behind SDO. */
+/* The device of document 01, in the order of that paper, with wishes 1 to 4 of document 02;
+ * dither, wish 4, stands before the ramp, whose ticks advance its phase, and process data, wish
+ * 2, behind SDO. */
 #include "model.h"
 
 #include <string.h>
@@ -23,7 +24,8 @@ static int64_t magnitude(int64_t value)
 #define U32_ALL 0, UINT32_MAX
 #define TIMES 0, 3600000
 
-/* The rows of the settings stand last and in the order of their tags. */
+/* The rows of the settings stand together and in the order of their tags; those of the dither
+ * stand last. */
 const struct object objects[OBJECTS] = {
     /* index, form, type, access, locked, low, high, fresh, value */
     {0x1600, MAP_RECORD, U32, READ_WRITE, false, U32_ALL, 0, RECEIVE_MAPPING},
@@ -50,9 +52,15 @@ const struct object objects[OBJECTS] = {
     {0x6343, RECORD, I16, READ_WRITE, true, 0, 4096, 0, DEAD_BAND_A_SIDE},
     {0x6344, RECORD, I16, READ_WRITE, true, 0, 4096, 0, DEAD_BAND_B_SIDE},
     {0x6345, RECORD, I16, READ_WRITE, true, 0, 16384, 0, DEAD_BAND_THRESHOLD},
+    {0x6360, VARIABLE, I8, READ_WRITE, true, 0, 2, 0, SHOWN_DITHER_TYPE},
+    {0x6361, RECORD, U16, READ_WRITE, true, 0, 1024, 0, SHOWN_DITHER_AMPLITUDE},
+    {0x6362, RECORD, U16, READ_WRITE, true, 0, 250, 0, SHOWN_DITHER_FREQUENCY},
 };
 
-enum { FIRST_SETTING_ROW = OBJECTS - SETTINGS };
+enum {
+    FIRST_DITHER_ROW = OBJECTS - DITHER_VALUES,
+    FIRST_SETTING_ROW = FIRST_DITHER_ROW - SETTINGS
+};
 
 /* What subs 2 and 3 of a time record say: seconds, milli (-3 as one byte). */
 enum { UNIT_SECOND = 0x03, PREFIX_MILLI = 0xfd };
@@ -68,6 +76,11 @@ const struct object *object_find(uint16_t index)
 const struct object *object_of_setting(size_t place)
 {
     return &objects[FIRST_SETTING_ROW + place];
+}
+
+const struct object *object_of_dither(size_t place)
+{
+    return &objects[FIRST_DITHER_ROW + place];
 }
 
 size_t object_size(const struct object *object)
@@ -161,6 +174,8 @@ struct device device_fresh(void)
     struct device device = {.state = DISABLED};
     for (size_t place = 0; place < SETTINGS; place++)
         device.setting[place] = object_of_setting(place)->fresh;
+    for (size_t place = 0; place < DITHER_VALUES; place++)
+        device.dither[place] = object_of_dither(place)->fresh;
     return device;
 }
 
@@ -193,8 +208,10 @@ static void enter(struct device *device, uint8_t state, uint16_t error_code)
 {
     device->state = state;
     device->error_code = error_code;
-    if (is_idle(device))
+    if (is_idle(device)) {
         device->position = 0;
+        device->phase = 0;
+    }
 }
 
 static void accept_control_word(struct device *device, uint16_t word)
@@ -249,6 +266,59 @@ static uint16_t status_word(const struct device *device)
     if (!is_idle(device) && device->position == target_position(device))
         word |= AT_TARGET;
     return word;
+}
+
+/* ---- Dither ---- */
+
+enum dither_type { DITHER_OFF, DITHER_SQUARE, DITHER_TRIANGLE };
+
+/* So much of the phase's range of 2^32 as one tick, 1/1000 s, is of a period. */
+static uint64_t phase_per_tick(const struct device *device)
+{
+    uint64_t frequency = (uint64_t)device->dither[DITHER_FREQUENCY];
+    return (frequency << 32) / 1000;
+}
+
+/* The phase advances whatever the type is. It runs over its end: the remainder of 2^32 stays.
+ * The product is below 2^62, as no tick is more than 2^30. */
+static uint32_t phase_after_ticks(const struct device *device, uint32_t ticks)
+{
+    if (is_idle(device))
+        return 0;
+    return (uint32_t)(device->phase + ticks * phase_per_tick(device));
+}
+
+static int64_t square(const struct device *device)
+{
+    const uint32_t half = UINT32_C(1) << 31;
+    int64_t amplitude = device->dither[DITHER_AMPLITUDE];
+    return device->phase < half ? amplitude : -amplitude;
+}
+
+/* Up from 0, down through 0 and up again, by quarters of the period. */
+static int64_t triangle(const struct device *device)
+{
+    enum { QUARTER = 16384 };
+    int64_t amplitude = device->dither[DITHER_AMPLITUDE];
+    int64_t x = device->phase / 65536; /* the fraction is dropped */
+    int64_t height = x - 4 * QUARTER;
+    if (x < QUARTER)
+        height = x;
+    else if (x < 3 * QUARTER)
+        height = 2 * QUARTER - x;
+    return amplitude * height / QUARTER; /* toward zero */
+}
+
+static int64_t dither(const struct device *device)
+{
+    switch (device->dither[DITHER_TYPE]) {
+    case DITHER_SQUARE:
+        return square(device);
+    case DITHER_TRIANGLE:
+        return triangle(device);
+    default:
+        return 0;
+    }
 }
 
 /* ---- Ramp ---- */
@@ -313,8 +383,10 @@ enum number device_tick(struct device *device)
 {
     if (!device_sound(device))
         return STATE_NOT_SOUND;
-    if (!is_idle(device))
+    if (!is_idle(device)) {
         device->position = (int32_t)position_after_tick(device);
+        device->phase = phase_after_ticks(device, 1);
+    }
     return DONE;
 }
 
@@ -370,6 +442,7 @@ enum number device_jump(struct device *device, uint32_t ticks)
     if (!device_sound(device))
         return STATE_NOT_SOUND;
     device->position = (int32_t)position_after_ticks(device, ticks);
+    device->phase = phase_after_ticks(device, ticks);
     return DONE;
 }
 
@@ -389,12 +462,13 @@ static int64_t with_dead_band(const struct device *device, int64_t r)
     return 0;
 }
 
+/* Within the dead band it is the dither alone. */
 static int64_t command(const struct device *device)
 {
     if (is_idle(device))
         return 0;
     int64_t r = device->position / PER_IR; /* toward zero */
-    return clamp(with_dead_band(device, r), -FULL_STROKE, FULL_STROKE);
+    return clamp(with_dead_band(device, r) + dither(device), -FULL_STROKE, FULL_STROKE);
 }
 
 /* ---- SDO ---- */
@@ -421,6 +495,10 @@ static int64_t shown_value(const struct device *device, const struct object *obj
     case RECEIVE_MAPPING:
     case TRANSMIT_MAPPING:
         return sub == 0 ? map->count : map->entry[sub - 1];
+    case SHOWN_DITHER_TYPE:
+    case SHOWN_DITHER_AMPLITUDE:
+    case SHOWN_DITHER_FREQUENCY:
+        return device->dither[object->value - SHOWN_DITHER_TYPE];
     default:
         return device->setting[object->value];
     }
@@ -443,6 +521,11 @@ static void take_value(struct device *device, const struct object *object, uint8
             map->count = (uint8_t)value;
         else
             map->entry[sub - 1] = (uint32_t)value;
+        break;
+    case SHOWN_DITHER_TYPE:
+    case SHOWN_DITHER_AMPLITUDE:
+    case SHOWN_DITHER_FREQUENCY:
+        device->dither[object->value - SHOWN_DITHER_TYPE] = value;
         break;
     default:
         device->setting[object->value] = value;
@@ -473,11 +556,18 @@ static void read_entry(const struct device *device, const struct object *object,
     number_to_bytes(value, &reply[4], size);
 }
 
+/* Its numbers stand for kinds, so that none is too high or too low but only another. */
+static bool is_choice(const struct object *object)
+{
+    return object->value == RAMP_TYPE || object->value == DEAD_BAND_TYPE ||
+           object->value == SHOWN_DITHER_TYPE;
+}
+
 static enum abort_code range_abort(const struct object *object, int64_t value)
 {
     if (in_range(object, value))
         return NO_ABORT;
-    if (object->value == RAMP_TYPE || object->value == DEAD_BAND_TYPE)
+    if (is_choice(object))
         return ABORT_VALUE;
     return value > object->high ? ABORT_TOO_HIGH : ABORT_TOO_LOW;
 }
@@ -789,12 +879,22 @@ static bool map_sound(enum map_kind kind, const struct map *map)
     return true;
 }
 
+static bool dither_sound(const struct device *device)
+{
+    for (size_t place = 0; place < DITHER_VALUES; place++)
+        if (!in_range(object_of_dither(place), device->dither[place]))
+            return false;
+    return !is_idle(device) || device->phase == 0;
+}
+
 bool device_sound(const struct device *device)
 {
     if (device->state >= STATES || !settings_sound(device->setting))
         return false;
     if (!map_sound(RECEIVE_MAP, &device->map[RECEIVE_MAP]) ||
         !map_sound(TRANSMIT_MAP, &device->map[TRANSMIT_MAP]))
+        return false;
+    if (!dither_sound(device))
         return false;
     if (device->set_point < INT16_MIN || device->set_point > INT16_MAX)
         return false;
@@ -814,8 +914,9 @@ bool device_equal(const struct device *a, const struct device *b)
 {
     return a->state == b->state && a->control_word == b->control_word &&
            a->error_code == b->error_code && a->set_point == b->set_point &&
-           a->position == b->position &&
+           a->position == b->position && a->phase == b->phase &&
            memcmp(a->setting, b->setting, sizeof a->setting) == 0 &&
+           memcmp(a->dither, b->dither, sizeof a->dither) == 0 &&
            maps_equal(&a->map[RECEIVE_MAP], &b->map[RECEIVE_MAP]) &&
            maps_equal(&a->map[TRANSMIT_MAP], &b->map[TRANSMIT_MAP]);
 }

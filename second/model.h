@@ -1,4 +1,4 @@
-/* The device of document 01, with wishes 1 to 3 of document 02: what the other files may know
+/* The device of document 01, with wishes 1 to 4 of document 02: what the other files may know
  * of it. */
 #ifndef SECOND_MODEL_H
 #define SECOND_MODEL_H
@@ -38,6 +38,9 @@ enum setting {
     SETTINGS
 };
 
+/* The dither's values by place. The stored image has none of them. */
+enum dither_value { DITHER_TYPE, DITHER_AMPLITUDE, DITHER_FREQUENCY, DITHER_VALUES };
+
 /* Process data: what is received and what is sent. */
 enum map_kind { RECEIVE_MAP, TRANSMIT_MAP, MAPS };
 enum { MAP_ENTRIES = 4 };
@@ -48,9 +51,9 @@ struct map {
     uint32_t entry[MAP_ENTRIES];
 };
 
-/* Settings are 64 bits wide, so that one type holds I8, I16 and U32 alike and
- * a value outside its range can be written down and found unsound. The set
- * point is wider than its I16 for the same reason. */
+/* Settings and the dither's values are 64 bits wide, so that one type holds I8, I16, U16 and U32
+ * alike and a value outside its range can be written down and found unsound. The set point is
+ * wider than its I16 for the same reason. */
 struct device {
     uint8_t state;
     uint16_t control_word;
@@ -59,6 +62,8 @@ struct device {
     int32_t position;
     int64_t setting[SETTINGS];
     struct map map[MAPS];
+    int64_t dither[DITHER_VALUES];
+    uint32_t phase; /* of the dither; it runs over its end on purpose */
 };
 
 /* Numbers handed back. */
@@ -91,7 +96,10 @@ enum {
     SET_POINT,
     COMMAND,
     RECEIVE_MAPPING,
-    TRANSMIT_MAPPING
+    TRANSMIT_MAPPING,
+    SHOWN_DITHER_TYPE, /* the dither's values in the order of their places */
+    SHOWN_DITHER_AMPLITUDE,
+    SHOWN_DITHER_FREQUENCY
 };
 
 struct object {
@@ -106,11 +114,12 @@ struct object {
     uint8_t value; /* which value it shows */
 };
 
-enum { OBJECTS = 24 };
+enum { OBJECTS = 27 };
 extern const struct object objects[OBJECTS];
 
 const struct object *object_find(uint16_t index);
 const struct object *object_of_setting(size_t place);
+const struct object *object_of_dither(size_t place);
 size_t object_size(const struct object *object); /* of its value, in bytes */
 size_t object_entry_size(const struct object *object, uint8_t sub);
 uint8_t object_top_sub(const struct object *object);

@@ -226,22 +226,51 @@ static struct device with_broken_map(struct device device, const struct record *
     return device;
 }
 
+/* What brings a value out of its range: the ways of the settings, in order. */
+static int64_t value_beyond(const struct object *object, int way)
+{
+    switch (way) {
+    case BROKEN_SETTING_ABOVE:
+        return object->high + 1;
+    case BROKEN_SETTING_BELOW:
+        return object->low - 1;
+    case BROKEN_SETTING_MOST:
+        return INT64_MAX;
+    default:
+        return INT64_MIN;
+    }
+}
+
+/* The same ways in the same order: -1 is one below, since each range begins at 0. */
+static struct device with_broken_dither(struct device device, const struct record *record)
+{
+    size_t place = record->word % DITHER_VALUES;
+    int way = record->small - BROKEN_DITHER_ABOVE + BROKEN_SETTING_ABOVE;
+    device.dither[place] = value_beyond(object_of_dither(place), way);
+    return device;
+}
+
+/* Nothing but the phase is wrong: it is the one past 0 in DISABLED, the one before it in FAULT. */
+static struct device with_broken_phase(struct device device, const struct record *record)
+{
+    bool fault = record->small == BROKEN_PHASE_IN_FAULT;
+    device.state = fault ? FAULT : DISABLED;
+    device.error_code = fault ? 1 : 0;
+    device.position = 0;
+    device.phase = fault ? UINT32_MAX : 1;
+    return device;
+}
+
 static struct device broken_device(struct device device, const struct record *record)
 {
     enum { BELOW_STROKE = -FULL_POSITION - 1, NO_STATE = 255 };
     size_t place = record->word % SETTINGS;
     switch (record->small) {
     case BROKEN_SETTING_ABOVE:
-        device.setting[place] = object_of_setting(place)->high + 1;
-        break;
     case BROKEN_SETTING_BELOW:
-        device.setting[place] = object_of_setting(place)->low - 1;
-        break;
     case BROKEN_SETTING_MOST:
-        device.setting[place] = INT64_MAX;
-        break;
     case BROKEN_SETTING_LEAST:
-        device.setting[place] = INT64_MIN;
+        device.setting[place] = value_beyond(object_of_setting(place), record->small);
         break;
     case BROKEN_POSITION:
         device.position = BELOW_STROKE;
@@ -260,6 +289,14 @@ static struct device broken_device(struct device device, const struct record *re
     case BROKEN_MAP_ENTRY_OTHER:
     case BROKEN_MAP_ENTRY_ZERO:
         return with_broken_map(device, record);
+    case BROKEN_DITHER_ABOVE:
+    case BROKEN_DITHER_MINUS_1:
+    case BROKEN_DITHER_MOST:
+    case BROKEN_DITHER_LEAST:
+        return with_broken_dither(device, record);
+    case BROKEN_PHASE_IN_DISABLED:
+    case BROKEN_PHASE_IN_FAULT:
+        return with_broken_phase(device, record);
     default:
         device.state = NO_STATE;
     }

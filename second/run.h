@@ -58,7 +58,13 @@ enum broken_kind {
     BROKEN_MAP_COUNT_255,
     BROKEN_MAP_ENTRY_OTHER, /* of the other direction */
     BROKEN_MAP_ENTRY_ZERO,  /* and counted */
-    BROKEN_STATE,           /* every higher number too */
+    BROKEN_DITHER_ABOVE,    /* one above its range */
+    BROKEN_DITHER_MINUS_1,
+    BROKEN_DITHER_MOST, /* of 64 bits */
+    BROKEN_DITHER_LEAST,
+    BROKEN_PHASE_IN_DISABLED,
+    BROKEN_PHASE_IN_FAULT,
+    BROKEN_STATE, /* every higher number too */
     BROKEN_KINDS
 };
 

@@ -118,23 +118,36 @@ static uint16_t word_of_map(struct maker *m, uint32_t turn)
     return (uint16_t)((turn + turn / CALLS) % PLACES + PLACES * round);
 }
 
+/* A word of one of the dither's values; they shift with each round of calls. */
+static uint16_t word_of_dither(struct maker *m, uint32_t turn)
+{
+    enum { ROUNDS = UINT16_MAX / DITHER_VALUES };
+    uint32_t round = one_in(m, 3) ? 0 : below(m, ROUNDS);
+    return (uint16_t)((turn + turn / CALLS) % DITHER_VALUES + DITHER_VALUES * round);
+}
+
 static uint16_t word_of_way(struct maker *m, uint32_t turn, const struct record *record)
 {
     if (record->small <= BROKEN_SETTING_LEAST)
         return word_of_setting(m, turn % SETTINGS);
     if (record->small >= BROKEN_MAP_COUNT_5 && record->small <= BROKEN_MAP_ENTRY_ZERO)
         return word_of_map(m, turn);
+    if (record->small >= BROKEN_DITHER_ABOVE && record->small <= BROKEN_DITHER_LEAST)
+        return word_of_dither(m, turn);
     return record->word;
 }
 
-/* Every way with one call, one setting or entry of a map, and in one state, each in
- * turn. What a load is given is damaged from some way on. */
+/* Every way with one call, one setting, entry of a map or value of the dither, and in one state,
+ * each in turn; in every other round of calls the settings alone, which are the most. What a
+ * load is given is damaged from some way on. */
 void scene_broken(struct maker *m)
 {
     uint32_t turn = next_turn(m, SWEEP_BROKEN);
-    uint32_t damaged_from = below(m, BROKEN_KINDS);
+    bool settings_alone = turn / CALLS % 2 == 1;
+    uint8_t ways = settings_alone ? BROKEN_SETTING_LEAST + 1 : BROKEN_KINDS;
+    uint32_t damaged_from = below(m, ways);
     steer_to(m, state_for(turn));
-    for (uint8_t way = 0; way < BROKEN_KINDS; way++) {
+    for (uint8_t way = 0; way < ways; way++) {
         if (turn % CALLS == CALL_LOAD && way == damaged_from)
             emit_plain(m, EVENT_PATCH);
         struct record record = make(m, EVENT_BROKEN);

@@ -61,10 +61,10 @@ static void print_line(const struct run *run, const struct record *record,
     } else {
         printf("unknown %d", (int)record->kind);
     }
-    printf(" | %" PRId64 " %" PRId64 " %" PRId64 "\n",
+    printf(" | %" PRId64 " %" PRId64 " %" PRId64 " %" PRIu32 "\n",
            device_query(&run->device, QUERY_STATE).value,
            device_query(&run->device, QUERY_STATUS).value,
-           device_query(&run->device, QUERY_POSITION).value);
+           device_query(&run->device, QUERY_POSITION).value, run->device.phase);
 }
 
 int mode_trace(void)

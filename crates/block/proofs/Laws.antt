@@ -3,24 +3,24 @@ use mathlib.Core.Bool.{Bool, false}
 use mathlib.Core.Path.{_≡_}
 use Prim.Native.Nat.{ℕ, _<_}
 use native.Mathlib.Omega.{arith}
-use lib.IntN.{ℤ, pos}
+use lib.IntN.{ℤ, pos, negℤ, _+ℤ_, _-ℤ_}
 use lib.Signed.{ltZ, _≤ℤ_, leZ-yes}
 use mir.Syntax.{w64}
 use mir.Val.{SFits, toZ, ofZ}
 use mir.Facts.{toZ-ofZ}
-use Rattle.integers.specs.Words.{minus}
+use Rattle.integers.specs.Words.{minus, _=?_}
 use Rattle.integers.specs.Range.{Within}
 use Rattle.integers.proofs.Linear.{ints}
 use Rattle.integers.proofs.Cases.{by-test}
-use Rattle.integers.proofs.Range.{wider, fits, over, times, size, exactly}
+use Rattle.integers.proofs.Range.{wider, fits, over, plus, less, times, size, exactly}
 use Rattle.objects.specs.Numbers.{FULL-STROKE, FULL-POSITION, PARTS}
-use Rattle.objects.specs.Places.{SETTINGS, SET-POINT, HOLD-SET-POINT, UPPER-LIMIT, LOWER-LIMIT, SCALING-FACTOR, SCALING-OFFSET, ZERO-CORRECTION, RAMP-TYPE, ACCELERATION, ACCELERATION-POSITIVE, ACCELERATION-NEGATIVE, DECELERATION, DECELERATION-POSITIVE, DECELERATION-NEGATIVE, A-SIDE, B-SIDE, THRESHOLD}
+use Rattle.objects.specs.Places.{SETTINGS, SET-POINT, HOLD-SET-POINT, UPPER-LIMIT, LOWER-LIMIT, SCALING-FACTOR, SCALING-OFFSET, ZERO-CORRECTION, RAMP-TYPE, ACCELERATION, ACCELERATION-POSITIVE, ACCELERATION-NEGATIVE, DECELERATION, DECELERATION-POSITIVE, DECELERATION-NEGATIVE, DEAD-BAND-TYPE, A-SIDE, B-SIDE, THRESHOLD}
 use Rattle.objects.specs.Table.{objects, InRange}
 use Rattle.ramp.specs.declared.Ramp.{Ramp}
 use Rattle.ramp.specs.Ramp.{Way}
 use Rattle.block.specs.Block.{setting}
 use Rattle.block.specs.Target.{inputOf, clampTo, clampToStroke, scaledBy, targetFrom, targetOf, targetPosition}
-use Rattle.block.specs.Command.{wholeOf, commandOf}
+use Rattle.block.specs.Command.{wholeOf, banded, bandedBy, bandedOf, commandOf}
 use Rattle.block.specs.Sound.{Sound}
 use Rattle.block.specs.Travel.{rampOf}
 use Rattle.block.specs.Asked.{Scaling, Chain, Band}
@@ -49,15 +49,31 @@ pub scaled-within : {factor x : ℤ} → Scaling factor x → Within (minus 2147
 unfolding scaledBy objects
 scaled-within s = wider (over PARTS (times (s .value) (s .factor))) tt tt
 
+-- what holds of r, of r with either side, and of 0 holds of r behind a dead band
+banded-one : (P : ℤ → Type 0) (kind a-side b-side threshold r : ℤ) → P r → P (r +ℤ a-side) → P (r -ℤ b-side) → P (pos 0) → P (bandedBy kind a-side b-side threshold r)
+unfolding bandedBy banded
+banded-one P kind a-side b-side threshold r p a b z =
+    by-test P (kind =? pos 0) (λ e. p)
+    (λ e. by-test P (ltZ threshold r) (λ f. a)
+    (λ f. by-test P (ltZ r (negℤ threshold)) (λ g. b) (λ g. z)))
+
+-- between the threshold and its negative, ends included, a dead band of type 1 gives 0
+pub banded-inside : (a-side b-side threshold r : ℤ) → Within (negℤ threshold) threshold r → bandedBy (pos 1) a-side b-side threshold r ≡ pos 0
+unfolding bandedBy banded
+banded-inside a-side b-side threshold r w =
+    let above : ltZ threshold r ≡ false = omega (arith, ints) in
+    let below : ltZ r (negℤ threshold) ≡ false = omega (arith, ints) in
+    rw (above, below)
+
 -- ---- target and command lie within full stroke
 
 pub target-within : (active : Bool) (b : Block) → Within (minus FULL-STROKE) (pos FULL-STROKE) (targetOf active b)
 unfolding targetOf targetFrom
 target-within active b = stroke-within _
 
-pub command-within : (b : Block) → Within (minus FULL-STROKE) (pos FULL-STROKE) (commandOf b)
+pub command-within : (dither : ℤ) (b : Block) → Within (minus FULL-STROKE) (pos FULL-STROKE) (commandOf dither b)
 unfolding commandOf
-command-within b = stroke-within _
+command-within dither b = stroke-within _
 
 -- ---- the target depends on the settings, the set point and which of the two is the input, and on nothing else
 
@@ -100,6 +116,13 @@ module _ {b : Block} (s : Sound b) where
         threshold = in-range THRESHOLD (omega arith);
         whole = over PARTS (block-parts s .position);
       }
+
+  -- a side is at most a quarter of full stroke
+  pub banded-within : Within (minus 20480) (pos 20480) (bandedOf b)
+  unfolding bandedOf objects
+  banded-within =
+      banded-one (Within (minus 20480) (pos 20480)) (setting b DEAD-BAND-TYPE) (setting b A-SIDE) (setting b B-SIDE) (setting b THRESHOLD) (wholeOf (b .position)) (wider (band .whole) tt tt)
+      (wider (plus (band .whole) (band .a-side)) tt tt) (wider (less (band .whole) (band .b-side)) tt tt) (wider (exactly (pos 0)) tt tt)
 
   pub way : (active : Bool) → Way (rampOf b) (targetPosition active b) (b .position)
   unfolding objects targetPosition

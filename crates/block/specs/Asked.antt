@@ -6,6 +6,8 @@ use Rattle.integers.specs.Range.{Within}
 use Rattle.objects.specs.Numbers.{FULL-STROKE}
 use Rattle.objects.specs.Places.{SETTINGS, SET-POINT, UPPER-LIMIT, LOWER-LIMIT, SCALING-FACTOR, SCALING-OFFSET, ZERO-CORRECTION, A-SIDE, B-SIDE, THRESHOLD}
 use Rattle.objects.specs.Table.{InRange}
+use Rattle.block.specs.Sound.{Sound}
+use Rattle.block.specs.declared.Block.{Block}
 
 -- the place of a stored setting
 pub record ASetting (place : ℕ) : Type 0 where
@@ -31,3 +33,8 @@ pub record Band (a b h r : ℤ) : Type 0 where
   pub b-side : InRange B-SIDE b
   pub threshold : InRange THRESHOLD h
   pub whole : Within (minus FULL-STROKE) (pos FULL-STROKE) r
+
+-- a sound block, and what is added behind its dead band: no more either way than the highest amplitude
+pub record Dithered (b : Block) (dither : ℤ) : Type 0 where
+  pub sound : Sound b
+  pub small : Within (minus 1024) (pos 1024) dither

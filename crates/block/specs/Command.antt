@@ -1,4 +1,4 @@
--- Document 01, "Command", in HOLD and ACTIVE.
+-- Document 01, "Command", in HOLD and ACTIVE, with the dither of wish 4 of document 02.
 use lib.IntN.{ℤ, pos, negℤ, _+ℤ_, _-ℤ_}
 use Rattle.integers.specs.Words.{if_then_else_, _over_, _<?_, _=?_}
 use Rattle.objects.specs.Numbers.{PARTS}
@@ -24,8 +24,10 @@ bandedBy kind a-side b-side threshold r =
     if kind =? pos 0 then r
     else banded a-side b-side threshold r
 
--- the command in ir
-unfoldable pub commandOf : Block → ℤ
-commandOf b =
-    clampToStroke (bandedBy (setting b DEAD-BAND-TYPE) (setting b A-SIDE) (setting b B-SIDE) (setting b THRESHOLD)
-    (wholeOf (b .position)))
+-- the position in whole ir behind the dead band
+unfoldable pub bandedOf : Block → ℤ
+bandedOf b = bandedBy (setting b DEAD-BAND-TYPE) (setting b A-SIDE) (setting b B-SIDE) (setting b THRESHOLD) (wholeOf (b .position))
+
+-- the command in ir: the dither is added after the dead band and before the last clamp
+unfoldable pub commandOf : ℤ → Block → ℤ
+commandOf dither b = clampToStroke (bandedOf b +ℤ dither)

@@ -3,11 +3,11 @@ ghost use mathlib.Core.Path.{_≡_};
 ghost use Rattle.integers.specs.Words.{_=?_};
 ghost use Rattle.block.specs.Block.{setting, atPosition, withSetpoint, withSetting, withSettings, freshBlock};
 ghost use Rattle.block.specs.Target.{inputOf, clampTo, clampToStroke, scaledBy, targetFrom, targetOf, targetPosition};
-ghost use Rattle.block.specs.Command.{wholeOf, bandedBy, commandOf};
+ghost use Rattle.block.specs.Command.{wholeOf, bandedBy, bandedOf, commandOf};
 ghost use Rattle.block.specs.Command as Commands;
 ghost use Rattle.block.specs.Sound.{soundSettings, soundBlock, Sound};
 ghost use Rattle.block.specs.Travel.{rampOf, tickBlock, jumpBlock, ticksToGoOf};
-ghost use Rattle.block.specs.Asked.{ASetting, Scaling, Chain, Band};
+ghost use Rattle.block.specs.Asked.{ASetting, Scaling, Chain, Band, Dithered};
 use objects::A_SIDE;
 use objects::ACCELERATION;
 use objects::ACCELERATION_NEGATIVE;
@@ -188,18 +188,26 @@ fn banded_by(kind: i64, a_side: i64, b_side: i64, threshold: i64, r: i64) -> i64
     }
 }
 
-// The command in ir.
-pub fn command(block: Block) -> i64
+// The position in whole ir behind the dead band.
+fn banded_of(block: Block) -> i64
     requires { ⌜ Sound block ⌝ }
-    ensures { λ r. ⌜ r ≡ commandOf block ⌝ }
+    ensures { λ r. ⌜ r ≡ bandedOf block ⌝ }
 {
-    clamp_to_stroke(banded_by(
+    banded_by(
         setting(block, DEAD_BAND_TYPE),
         setting(block, A_SIDE),
         setting(block, B_SIDE),
         setting(block, THRESHOLD),
         whole_of(block.position),
-    ))
+    )
+}
+
+// The command in ir: inside the dead band it is the dither alone, and the last clamp takes in the dither too.
+pub fn command(block: Block, dither: i64) -> i64
+    requires { ⌜ Dithered block dither ⌝ }
+    ensures { λ r. ⌜ r ≡ commandOf dither block ⌝ }
+{
+    clamp_to_stroke(banded_of(block) + dither)
 }
 
 // ---- soundness

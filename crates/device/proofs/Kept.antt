@@ -1,4 +1,4 @@
--- Control words, faults, ticks and jumps change no setting, no set point and no map. So whenever a device is back in a state, its target is what it was: no change of state can add a correction again.
+-- Control words, faults, ticks and jumps change no setting, no set point, no map and of the dither nothing but the phase. So whenever a device is back in a state, its target is what it was: no change of state can add a correction again.
 use mathlib.Core.Path.{_≡_, refl, _∙_}
 use Prim.Native.Nat.{ℕ}
 use lib.Dec.{eqb}
@@ -6,45 +6,49 @@ use Rattle.integers.proofs.Cases.{by-test}
 use Rattle.block.specs.declared.Block.{Block}
 use Rattle.block.specs.Travel.{tickBlock, jumpBlock}
 use Rattle.block.proofs.Laws.{target-depends}
+use Rattle.dither.specs.Dither.{atPhase}
+use Rattle.dither.specs.Phase.{tickDither, jumpDither}
+use Rattle.dither.specs.declared.Dither.{Dither}
 use Rattle.device.specs.States.{FAULT, nextState, driven}
 use Rattle.device.specs.Device.{isActive}
-use Rattle.device.specs.Events.{blockIn, entering, controlled, reported, faulted, tickDevice, jumpDevice}
+use Rattle.device.specs.Events.{blockIn, ditherIn, entering, controlled, reported, faulted, tickDevice, jumpDevice}
 use Rattle.device.specs.Queries.{deviceTarget}
 use Rattle.device.specs.Kept.{SameSettings}
 use Rattle.device.specs.declared.Device.{Device}
 
 pub same : {d : Device} → SameSettings d d
-same = record { settings = refl; setpoint = refl; maps = refl }
+same = record { settings = refl; setpoint = refl; maps = refl; dither = refl }
 
 pub then-same : {d e f : Device} → SameSettings d e → SameSettings e f → SameSettings d f
-then-same p q = record { settings = p .settings ∙ q .settings; setpoint = p .setpoint ∙ q .setpoint; maps = p .maps ∙ q .maps }
+then-same p q = record { settings = p .settings ∙ q .settings; setpoint = p .setpoint ∙ q .setpoint; maps = p .maps ∙ q .maps; dither = p .dither ∙ q .dither }
 
 -- ---- each event
 
 pub entering-keeps : (state : ℕ) (d : Device) → SameSettings (entering state d) d
-unfolding entering blockIn
+unfolding entering blockIn ditherIn
 entering-keeps state d =
     record {
       settings = by-test (λ (b : Block). b .settings ≡ d .block .settings) (driven state) (λ e. refl) (λ e. refl);
       setpoint = by-test (λ (b : Block). b .setpoint ≡ d .block .setpoint) (driven state) (λ e. refl) (λ e. refl);
       maps = refl;
+      dither = by-test (λ (h : Dither). atPhase 0 h ≡ atPhase 0 (d .dither)) (driven state) (λ e. refl) (λ e. refl);
     }
 
 pub controlled-keeps : (word : ℕ) (d : Device) → SameSettings (controlled word d) d
 unfolding controlled
-controlled-keeps word d = let k = entering-keeps (nextState (d .state) (d .control) word) d in record { settings = k .settings; setpoint = k .setpoint; maps = k .maps }
+controlled-keeps word d = let k = entering-keeps (nextState (d .state) (d .control) word) d in record { settings = k .settings; setpoint = k .setpoint; maps = k .maps; dither = k .dither }
 
 pub faulted-keeps : (code : ℕ) (d : Device) → SameSettings (faulted code d) d
 unfolding faulted reported
-faulted-keeps code d = then-same (entering-keeps FAULT (reported code d)) (by-test (λ e. SameSettings e d) (eqb (d .state) FAULT) (λ e. same) (λ e. record { settings = refl; setpoint = refl; maps = refl }))
+faulted-keeps code d = then-same (entering-keeps FAULT (reported code d)) (by-test (λ e. SameSettings e d) (eqb (d .state) FAULT) (λ e. same) (λ e. record { settings = refl; setpoint = refl; maps = refl; dither = refl }))
 
 pub tick-keeps : (d : Device) → SameSettings (tickDevice d) d
-unfolding tickDevice tickBlock
-tick-keeps d = by-test (λ e. SameSettings e d) (driven (d .state)) (λ e. record { settings = refl; setpoint = refl; maps = refl }) (λ e. same)
+unfolding tickDevice tickBlock tickDither
+tick-keeps d = by-test (λ e. SameSettings e d) (driven (d .state)) (λ e. record { settings = refl; setpoint = refl; maps = refl; dither = refl }) (λ e. same)
 
 pub jump-keeps : (n : ℕ) (d : Device) → SameSettings (jumpDevice n d) d
-unfolding jumpDevice jumpBlock
-jump-keeps n d = by-test (λ e. SameSettings e d) (driven (d .state)) (λ e. record { settings = refl; setpoint = refl; maps = refl }) (λ e. same)
+unfolding jumpDevice jumpBlock jumpDither
+jump-keeps n d = by-test (λ e. SameSettings e d) (driven (d .state)) (λ e. record { settings = refl; setpoint = refl; maps = refl; dither = refl }) (λ e. same)
 
 -- ---- the target
 

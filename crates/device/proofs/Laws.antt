@@ -21,10 +21,15 @@ use Rattle.mapping.specs.Maps.{RECEIVABLE, SENDABLE}
 use Rattle.mapping.specs.Sound.{soundMaps}
 use Rattle.mapping.specs.declared.Maps.{Maps}
 use Rattle.mapping.proofs.Sound as Mapped
+use Rattle.dither.specs.Dither.{freshDither}
+use Rattle.dither.specs.Sound.{soundDither}
+use Rattle.dither.specs.Sound as Dithers
+use Rattle.dither.specs.declared.Dither.{Dither}
+use Rattle.dither.proofs.Laws as DitherLaws
 use Rattle.device.specs.Queries.{STATUS-ACTIVE, TARGET-MET, targetMet, statusOf}
 use Rattle.device.specs.States.{DISABLED, HOLD, ACTIVE, FAULT, bit, fromDisabled, fromHold, fromActive, fromFault, nextState, driven}
-use Rattle.device.specs.Device.{freshDevice, withBlock, withControl, withMaps, isActive}
-use Rattle.device.specs.Events.{blockIn, errorIn, entering, controlled, reported, faulted, tickDevice, jumpDevice}
+use Rattle.device.specs.Device.{freshDevice, withBlock, withControl, withMaps, withDither, isActive}
+use Rattle.device.specs.Events.{blockIn, ditherIn, errorIn, entering, controlled, reported, faulted, tickDevice, jumpDevice}
 use Rattle.device.specs.Sound.{isState, errorFits, rests, soundDevice, Sound}
 use Rattle.device.specs.declared.Device.{Device}
 
@@ -34,23 +39,29 @@ pub record Parts (d : Device) : Type 0 where
   pub at-rest : rests d ≡ true
   pub mapped : soundMaps (d .maps) ≡ true
   pub block : Blocks.Sound (d .block)
+  pub dither : Dithers.Sound (d .dither)
 
 pub device-parts : {d : Device} → Sound d → Parts d
 unfolding soundDevice
 device-parts {d} s =
     let first = isState (d .state) && errorFits (d .state) (d .error) in
-    let abcd = and-split (first && rests d && soundBlock (d .block)) (soundMaps (d .maps)) (s .sound) in
+    let abcde = and-split (first && rests d && soundBlock (d .block) && soundDither (d .dither)) (soundMaps (d .maps)) (s .sound) in
+    let abcd = and-split (first && rests d && soundBlock (d .block)) (soundDither (d .dither)) (abcde .0) in
     let abc = and-split (first && rests d) (soundBlock (d .block)) (abcd .0) in
     let ab = and-split first (rests d) (abc .0) in
     let a = and-split (isState (d .state)) (errorFits (d .state) (d .error)) (ab .0) in
-    record { known = a .0; fits = a .1; at-rest = ab .1; mapped = abcd .1; block = record { sound = abc .1 } }
+    record { known = a .0; fits = a .1; at-rest = ab .1; mapped = abcde .1; block = record { sound = abc .1 }; dither = record { sound = abcd .1 } }
 
 pub device-from-parts : {d : Device} → Parts d → Sound d
 unfolding soundDevice
-device-from-parts p = record { sound = and-both (and-both (and-both (and-both (p .known) (p .fits)) (p .at-rest)) (p .block .sound)) (p .mapped) }
+device-from-parts p =
+    record { sound = and-both (and-both (and-both (and-both (and-both (p .known) (p .fits)) (p .at-rest)) (p .block .sound)) (p .dither .sound)) (p .mapped) }
 
 pub block-of-sound : {d : Device} → Sound d → Blocks.Sound (d .block)
 block-of-sound s = device-parts s .block
+
+pub dither-of-sound : {d : Device} → Sound d → Dithers.Sound (d .dither)
+dither-of-sound s = device-parts s .dither
 
 -- and its maps by their parts
 module _ {d : Device} (s : Sound d) where
@@ -62,23 +73,31 @@ module _ {d : Device} (s : Sound d) where
 
 -- a device with another sound block is sound, where that rests as it must
 pub with-block-sound : {d : Device} {b : Block} → Sound d → Blocks.Sound b → rests (withBlock b d) ≡ true → Sound (withBlock b d)
-with-block-sound s h e = let p = device-parts s in device-from-parts (record { known = p .known; fits = p .fits; at-rest = e; mapped = p .mapped; block = h })
+with-block-sound s h e = let p = device-parts s in device-from-parts (record { known = p .known; fits = p .fits; at-rest = e; mapped = p .mapped; block = h; dither = p .dither })
+
+-- and one with another sound dither, where that rests as it must
+pub with-dither-sound : {d : Device} {h : Dither} → Sound d → Dithers.Sound h → rests (withDither h d) ≡ true → Sound (withDither h d)
+with-dither-sound s h e = let p = device-parts s in device-from-parts (record { known = p .known; fits = p .fits; at-rest = e; mapped = p .mapped; block = p .block; dither = h })
 
 -- and one with other sound maps
 pub with-maps-sound : {d : Device} {maps : Maps} → Sound d → soundMaps maps ≡ true → Sound (withMaps maps d)
 unfolding rests
 with-maps-sound {d} {maps} s h =
     let p = device-parts s in
-    device-from-parts {d = withMaps maps d} (record { known = p .known; fits = p .fits; at-rest = p .at-rest; mapped = h; block = p .block })
+    device-from-parts {d = withMaps maps d} (record { known = p .known; fits = p .fits; at-rest = p .at-rest; mapped = h; block = p .block; dither = p .dither })
 
--- it does so where the device is driven, and where the block stands at the same position
-pub driven-rests : (d : Device) (b : Block) → driven (d .state) ≡ true → rests (withBlock b d) ≡ true
+-- they do so where the device is driven, and where the block stands at the same position and the dither at the same phase
+pub driven-rests : (d : Device) → driven (d .state) ≡ true → rests d ≡ true
 unfolding rests
-driven-rests d b e = rw e
+driven-rests d e = rw e
 
 pub position-rests : {d : Device} (b : Block) → Sound d → b .position ≡ d .block .position → rests (withBlock b d) ≡ true
 unfolding rests
 position-rests b s e = rw e (device-parts s .at-rest)
+
+pub phase-rests : {d : Device} (h : Dither) → Sound d → h .phase ≡ d .dither .phase → rests (withDither h d) ≡ true
+unfolding rests
+phase-rests h s e = rw e (device-parts s .at-rest)
 
 -- ---- entering a state
 
@@ -86,17 +105,22 @@ block-in-sound : (state : ℕ) {b : Block} → Blocks.Sound b → Blocks.Sound (
 unfolding blockIn
 block-in-sound state {b} s = by-test Blocks.Sound (driven state) (λ e. s) (λ e. BlockTravel.moved-sound s (pos 0) (record { inside = omega arith }))
 
+dither-in-sound : (state : ℕ) {h : Dither} → Dithers.Sound h → Dithers.Sound (ditherIn state h)
+unfolding ditherIn
+dither-in-sound state s = by-test Dithers.Sound (driven state) (λ e. s) (λ e. DitherLaws.at-phase-sound s (omega arith))
+
 -- a device that enters one of the four states is sound, where FAULT has an error code
-pub entering-sound : (d : Device) (state : ℕ) → soundMaps (d .maps) ≡ true → Blocks.Sound (d .block) → isState state ≡ true → (eqb state FAULT ≡ true → d .error ≢ 0) → Sound (entering state d)
+pub entering-sound : (d : Device) (state : ℕ) → soundMaps (d .maps) ≡ true → Blocks.Sound (d .block) → Dithers.Sound (d .dither) → isState state ≡ true → (eqb state FAULT ≡ true → d .error ≢ 0) → Sound (entering state d)
 unfolding entering
-entering-sound d state maps s known code =
+entering-sound d state maps s h known code =
     device-from-parts
     (record {
       known = known;
       fits = unfold errorFits errorIn in by-cases (eqb state FAULT) (λ e. rw (e, ne-eqb (d .error) 0 (code e))) (λ e. rw e);
-      at-rest = unfold rests blockIn in by-cases (driven state) (λ e. rw e) (λ e. rw e);
+      at-rest = unfold rests blockIn ditherIn in by-cases (driven state) (λ e. rw e) (λ e. rw e);
       mapped = maps;
       block = block-in-sound state s;
+      dither = dither-in-sound state h;
     })
 
 -- ---- control words
@@ -164,14 +188,14 @@ unfolding controlled
 controlled-sound {d} s word =
     let p = device-parts s in
     with-control-sound
-    (entering-sound d _ (p .mapped) (p .block) (next-known (d .state) (d .control) word)
+    (entering-sound d _ (p .mapped) (p .block) (p .dither) (next-known (d .state) (d .control) word)
     (λ e. error-in-fault s (stays-in-fault (d .state) (d .control) word (p .known) e))) word
 
 -- ---- faults, ticks and jumps
 
 pub faulted-sound : {d : Device} → Sound d → (code : ℕ) → code ≢ 0 → Sound (faulted code d)
 unfolding faulted isState
-faulted-sound {d} s code h = entering-sound (reported code d) FAULT maps block refl (λ e. error)
+faulted-sound {d} s code h = entering-sound (reported code d) FAULT maps block dither refl (λ e. error)
   where
     maps : soundMaps (reported code d .maps) ≡ true
     maps = unfold reported in by-test (λ (e : Device). soundMaps (e .maps) ≡ true) (eqb (d .state) FAULT) (λ k. device-parts s .mapped) (λ k. device-parts s .mapped)
@@ -179,20 +203,33 @@ faulted-sound {d} s code h = entering-sound (reported code d) FAULT maps block r
     block : Blocks.Sound (reported code d .block)
     block = unfold reported in by-test (λ (e : Device). Blocks.Sound (e .block)) (eqb (d .state) FAULT) (λ k. block-of-sound s) (λ k. block-of-sound s)
 
+    dither : Dithers.Sound (reported code d .dither)
+    dither = unfold reported in by-test (λ (e : Device). Dithers.Sound (e .dither)) (eqb (d .state) FAULT) (λ k. dither-of-sound s) (λ k. dither-of-sound s)
+
     error : reported code d .error ≢ 0
     error = unfold reported in by-test (λ (e : Device). e .error ≢ 0) (eqb (d .state) FAULT) (λ k. error-in-fault s k) (λ k. h)
 
+-- a driven device with another sound block and another sound dither is sound
+moved-sound : {d : Device} {b : Block} {h : Dither} → Sound d → driven (d .state) ≡ true → Blocks.Sound b → Dithers.Sound h → Sound (withDither h (withBlock b d))
+moved-sound {d} {b} {h} s e k l = with-dither-sound (with-block-sound s k (driven-rests (withBlock b d) e)) l (driven-rests (withDither h (withBlock b d)) e)
+
 pub tick-sound : {d : Device} → Sound d → Sound (tickDevice d)
 unfolding tickDevice
-tick-sound {d} s = by-test Sound (driven (d .state)) (λ e. with-block-sound s (BlockTravel.tick-sound (block-of-sound s) (isActive d)) (driven-rests d _ e)) (λ e. s)
+tick-sound {d} s =
+    by-test Sound (driven (d .state))
+    (λ e. moved-sound s e (BlockTravel.tick-sound (block-of-sound s) (isActive d)) (DitherLaws.tick-sound (dither-of-sound s))) (λ e. s)
 
 pub jump-sound : {d : Device} → Sound d → (n : ℕ) → Sound (jumpDevice n d)
 unfolding jumpDevice
-jump-sound {d} s n = by-test Sound (driven (d .state)) (λ e. with-block-sound s (BlockTravel.jump-sound (block-of-sound s) (isActive d) n) (driven-rests d _ e)) (λ e. s)
+jump-sound {d} s n =
+    by-test Sound (driven (d .state))
+    (λ e. moved-sound s e (BlockTravel.jump-sound (block-of-sound s) (isActive d) n) (DitherLaws.jump-sound (dither-of-sound s) n)) (λ e. s)
 
 pub fresh-sound : Sound freshDevice
 unfolding freshDevice isState errorFits rests driven
-fresh-sound = device-from-parts (record { known = refl; fits = refl; at-rest = unfold freshBlock in refl; mapped = Mapped.fresh-sound; block = BlockSound.fresh-sound })
+fresh-sound =
+    device-from-parts
+    (record { known = refl; fits = refl; at-rest = unfold freshBlock freshDither in refl; mapped = Mapped.fresh-sound; block = BlockSound.fresh-sound; dither = DitherLaws.fresh-sound })
 
 -- ---- the status word
 

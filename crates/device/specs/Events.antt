@@ -1,17 +1,24 @@
--- Document 01, "Device states" and "Ramp": what an accepted control word, a fault, a tick and a jump do.
+-- Document 01, "Device states" and "Ramp", with the dither of wish 4 of document 02: what an accepted control word, a fault, a tick and a jump do.
 use Prim.Native.Nat.{ℕ, zero, suc}
 use lib.IntN.{pos}
 use Rattle.integers.specs.Words.{if_then_else_, _is_}
 use Rattle.block.specs.Block.{atPosition}
 use Rattle.block.specs.Travel.{tickBlock, jumpBlock}
 use Rattle.block.specs.declared.Block.{Block}
+use Rattle.dither.specs.Dither.{atPhase}
+use Rattle.dither.specs.Phase.{tickDither, jumpDither}
+use Rattle.dither.specs.declared.Dither.{Dither}
 use Rattle.device.specs.States.{FAULT, nextState, driven}
-use Rattle.device.specs.Device.{withBlock, withState, withControl, withError, isActive}
+use Rattle.device.specs.Device.{withBlock, withState, withControl, withError, withDither, isActive}
 use Rattle.device.specs.declared.Device.{Device}
 
 -- a block in a state: entering DISABLED or FAULT sets the position to 0
 unfoldable pub blockIn : ℕ → Block → Block
 blockIn state b = if driven state then b else atPosition (pos 0) b
+
+-- a dither in a state: entering DISABLED or FAULT sets the phase to 0
+unfoldable pub ditherIn : ℕ → Dither → Dither
+ditherIn state h = if driven state then h else atPhase 0 h
 
 -- an error code in a state: leaving FAULT clears it
 unfoldable pub errorIn : ℕ → ℕ → ℕ
@@ -19,7 +26,8 @@ errorIn state error = if state is FAULT then error else 0
 
 -- the device as it enters a state, which may be the one that it is in
 unfoldable pub entering : ℕ → Device → Device
-entering state d = withState state (withBlock (blockIn state (d .block)) (withError (errorIn state (d .error)) d))
+entering state d =
+    withState state (withBlock (blockIn state (d .block)) (withDither (ditherIn state (d .dither)) (withError (errorIn state (d .error)) d)))
 
 -- an accepted control word makes at most one move, and is stored
 unfoldable pub controlled : ℕ → Device → Device
@@ -35,7 +43,9 @@ faulted code d = entering FAULT (reported code d)
 
 -- one tick: in DISABLED and FAULT it changes nothing
 unfoldable pub tickDevice : Device → Device
-tickDevice d = if driven (d .state) then withBlock (tickBlock (isActive d) (d .block)) d else d
+tickDevice d =
+    if driven (d .state) then withDither (tickDither (d .dither)) (withBlock (tickBlock (isActive d) (d .block)) d)
+    else d
 
 -- n single ticks
 unfoldable pub tickDeviceTimes : ℕ → Device → Device
@@ -44,4 +54,6 @@ tickDeviceTimes (suc n) d = tickDevice (tickDeviceTimes n d)
 
 -- a jump of n ticks
 unfoldable pub jumpDevice : ℕ → Device → Device
-jumpDevice n d = if driven (d .state) then withBlock (jumpBlock (isActive d) n (d .block)) d else d
+jumpDevice n d =
+    if driven (d .state) then withDither (jumpDither n (d .dither)) (withBlock (jumpBlock (isActive d) n (d .block)) d)
+    else d

@@ -1,10 +1,11 @@
--- Document 01, "Device states", "From set point to target", "Ramp" and "Command": what can be asked of a device.
+-- Document 01, "Device states", "From set point to target", "Ramp" and "Command", with the dither of wish 4 of document 02: what can be asked of a device.
 use Prim.Native.Nat.{ℕ, _+_}
 use lib.IntN.{ℤ, pos}
 use Rattle.integers.specs.Words.{if_then_else_, _is_, _=?_}
 use Rattle.block.specs.Target.{targetOf, targetPosition}
 use Rattle.block.specs.Command.{commandOf}
 use Rattle.block.specs.Travel.{ticksToGoOf}
+use Rattle.dither.specs.Wave.{ditherOf}
 use Rattle.device.specs.States.{DISABLED, HOLD, ACTIVE, driven}
 use Rattle.device.specs.Device.{isActive}
 use Rattle.device.specs.declared.Device.{Device}
@@ -41,9 +42,9 @@ statusOf d =
 unfoldable pub deviceTarget : Device → ℤ
 deviceTarget d = targetOf (isActive d) (d .block)
 
--- the command in ir: 0 in DISABLED and FAULT
+-- the command in ir: 0 in DISABLED and FAULT; else with the dither at the phase as it stands
 unfoldable pub deviceCommand : Device → ℤ
-deviceCommand d = if driven (d .state) then commandOf (d .block) else pos 0
+deviceCommand d = if driven (d .state) then commandOf (ditherOf (d .dither)) (d .block) else pos 0
 
 -- the ticks to go: 0 in DISABLED and FAULT
 unfoldable pub deviceTicksToGo : Device → ℕ

@@ -1,4 +1,4 @@
--- Document 01, "Numbers handed back", with the maps of wish 2 of document 02: what makes a state sound.
+-- Document 01, "Numbers handed back", with the maps and the dither of wishes 2 and 4 of document 02: what makes a state sound.
 use mathlib.Core.Bool.{Bool, true, not, _&&_, _||_}
 use mathlib.Core.Path.{_≡_}
 use Prim.Native.Nat.{ℕ}
@@ -6,6 +6,7 @@ use lib.IntN.{pos}
 use Rattle.integers.specs.Words.{if_then_else_, _is_, _=?_}
 use Rattle.block.specs.Sound.{soundBlock}
 use Rattle.mapping.specs.Sound.{soundMaps}
+use Rattle.dither.specs.Sound.{soundDither}
 use Rattle.device.specs.States.{DISABLED, HOLD, ACTIVE, FAULT, driven}
 use Rattle.device.specs.declared.Device.{Device}
 
@@ -17,13 +18,15 @@ isState state = state is DISABLED || state is HOLD || state is ACTIVE || state i
 unfoldable pub errorFits : ℕ → ℕ → Bool
 errorFits state error = if state is FAULT then not (error is 0) else error is 0
 
--- position 0 in DISABLED and FAULT
+-- position 0 and phase 0 in DISABLED and FAULT
 unfoldable pub rests : Device → Bool
-rests d = driven (d .state) || d .block .position =? pos 0
+rests d = driven (d .state) || (d .block .position =? pos 0 && d .dither .phase is 0)
 
--- one of the four states, with a fitting error code, at rest where it must be, with a sound block and sound maps
+-- one of the four states, with a fitting error code, at rest where it must be, with a sound block, a sound dither and sound maps
 unfoldable pub soundDevice : Device → Bool
-soundDevice d = (isState (d .state) && errorFits (d .state) (d .error)) && rests d && soundBlock (d .block) && soundMaps (d .maps)
+soundDevice d =
+    (isState (d .state) && errorFits (d .state) (d .error)) && rests d
+    && soundBlock (d .block) && soundDither (d .dither) && soundMaps (d .maps)
 
 -- what the functions of a device ask
 pub record Sound (d : Device) : Type 0 where

@@ -1,16 +1,17 @@
 // The device: its four states, the control word, faults, ticks and jumps, and what can be asked of it. It holds the maps of process data,
-// which no event of its own changes.
+// which no event of its own changes, and the dither, whose phase goes on where the valve is driven.
 ghost use mathlib.Core.Path.{_≡_};
 ghost use mathlib.Core.Bool.{_&&_};
 ghost use Rattle.device.specs.States.{fromDisabled, fromHold, fromActive, fromFault, nextState};
 ghost use Rattle.device.specs.States as States;
-ghost use Rattle.device.specs.Device.{freshDevice, withBlock, withMaps};
-ghost use Rattle.device.specs.Events.{blockIn, errorIn, controlled, faulted, tickDevice, jumpDevice};
+ghost use Rattle.device.specs.Device.{freshDevice, withBlock, withMaps, withDither};
+ghost use Rattle.device.specs.Events.{blockIn, ditherIn, errorIn, controlled, faulted, tickDevice, jumpDevice};
 ghost use Rattle.device.specs.Events as Events;
 ghost use Rattle.device.specs.Queries.{targetMet, statusOf, deviceTarget, deviceCommand, deviceTicksToGo};
 ghost use Rattle.device.specs.Sound.{isState, errorFits, soundDevice, Sound};
 ghost use Rattle.device.specs.Sound as Sounds;
 use block::Block;
+use dither::Dither;
 use mapping::Maps;
 
 pub struct Device {
@@ -23,6 +24,8 @@ pub struct Device {
     pub error: u16,
     // what is received and sent as process data
     pub maps: Maps,
+    // what is added to the command
+    pub dither: Dither,
 }
 
 pub const DISABLED: u8 = 0;
@@ -69,6 +72,7 @@ pub fn fresh() -> Device
         control: 0,
         error: 0,
         maps: mapping::fresh(),
+        dither: dither::fresh(),
     }
 }
 
@@ -90,6 +94,15 @@ pub fn with_maps(device: Device, maps: Maps) -> Device
     other
 }
 
+// The device with another dither.
+pub fn with_dither(device: Device, dither: Dither) -> Device
+    ensures { λ r. ⌜ r ≡ withDither dither device ⌝ }
+{
+    let mut other = device;
+    other.dither = dither;
+    other
+}
+
 // The valve is driven in HOLD and ACTIVE.
 fn driven(state: u8) -> bool
     ensures { λ r. ⌜ r ≡ States.driven state ⌝ }
@@ -102,8 +115,8 @@ fn driven(state: u8) -> bool
 
 // ---- soundness
 
-// One of the four states, of which FAULT is the last, with an error code exactly in FAULT. One test for both, so that the compiler
-// takes the whole of `is_sound` into each call.
+// One of the four states, of which FAULT is the last, with an error code exactly in FAULT: one test for both, which costs
+// less than two.
 fn state_fits(state: u8, error: u16) -> bool
     ensures { λ r. ⌜ r ≡ (isState state && errorFits state error) ⌝ }
 {
@@ -113,12 +126,13 @@ fn state_fits(state: u8, error: u16) -> bool
     }
 }
 
-// Not driven, the valve rests at position 0.
+// Not driven, the valve rests at position 0, and the dither at phase 0.
 fn rests(device: Device) -> bool
     ensures { λ r. ⌜ r ≡ Sounds.rests device ⌝ }
 {
     let block = device.block;
-    driven(device.state) || block.position == 0
+    let dither = device.dither;
+    driven(device.state) || (block.position == 0 && dither.phase == 0)
 }
 
 // The cheap tests first.
@@ -127,9 +141,11 @@ pub fn is_sound(device: Device) -> bool
 {
     let block = device.block;
     let maps = device.maps;
+    let dither = device.dither;
     state_fits(device.state, device.error)
         && rests(device)
         && block::is_sound(block)
+        && dither::is_sound(dither)
         && mapping::is_sound(maps)
 }
 
@@ -190,6 +206,17 @@ fn block_in(state: u8, block: Block) -> Block
     }
 }
 
+// In DISABLED and FAULT the phase is 0.
+fn dither_in(state: u8, dither: Dither) -> Dither
+    ensures { λ r. ⌜ r ≡ ditherIn state dither ⌝ }
+{
+    if driven(state) {
+        dither
+    } else {
+        dither::at_phase(dither, 0)
+    }
+}
+
 // Only in FAULT there is an error code.
 fn error_in(state: u8, error: u16) -> u16
     ensures { λ r. ⌜ r ≡ errorIn state error ⌝ }
@@ -203,8 +230,11 @@ fn entering(device: Device, state: u8) -> Device
 {
     let block = device.block;
     let block = block_in(state, block);
+    let dither = device.dither;
+    let dither = dither_in(state, dither);
     let mut entered = device;
     entered.block = block;
+    entered.dither = dither;
     entered.state = state;
     entered.error = error_in(state, device.error);
     entered
@@ -247,7 +277,11 @@ pub fn tick(device: Device) -> Device
 {
     if driven(device.state) {
         let block = device.block;
-        with_block(device, block::tick(block, device.state == ACTIVE))
+        let dither = device.dither;
+        with_dither(
+            with_block(device, block::tick(block, device.state == ACTIVE)),
+            dither::tick(dither),
+        )
     } else {
         device
     }
@@ -260,7 +294,11 @@ pub fn jump(device: Device, n: u32) -> Device
 {
     if driven(device.state) {
         let block = device.block;
-        with_block(device, block::jump(block, device.state == ACTIVE, n))
+        let dither = device.dither;
+        with_dither(
+            with_block(device, block::jump(block, device.state == ACTIVE, n)),
+            dither::jump(dither, n),
+        )
     } else {
         device
     }
@@ -297,7 +335,8 @@ pub fn command(device: Device) -> i64
 {
     if driven(device.state) {
         let block = device.block;
-        block::command(block)
+        let dither = device.dither;
+        block::command(block, dither::value(dither))
     } else {
         0
     }

@@ -27,6 +27,7 @@ use Rattle.block.proofs.Sound.{block-parts}
 use Rattle.block.proofs.Laws.{command-within}
 use Rattle.mapping.specs.declared.Ruling.{Ruling}
 use Rattle.mapping.specs.declared.Ruling.the-variants.{Accepted, WhileCounted, AboveFour, NotMappable}
+use Rattle.dither.specs.Wave.{ditherOf}
 use Rattle.device.specs.States.{driven}
 use Rattle.device.specs.Queries.{deviceCommand}
 use Rattle.device.specs.Sound.{Sound}
@@ -90,7 +91,7 @@ pub device-command-within : (d : Device) → InRange COMMAND (deviceCommand d)
 unfolding deviceCommand objects
 device-command-within d =
     by-test (InRange COMMAND) (driven (d .state))
-    (λ e. let w = command-within (d .block) in omega (arith, ints)) (λ e. omega (arith, ints))
+    (λ e. let w = command-within (ditherOf (d .dither)) (d .block) in omega (arith, ints)) (λ e. omega (arith, ints))
 
 -- what is shown of an object's value is shown of what the code gives for it
 pub valued : {d : Device} {place : ℕ} {r v : ℤ} → valueAt d place ≡ v → (r ≡ v) × InRange place v → Valued d place r

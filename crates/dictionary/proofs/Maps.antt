@@ -1,9 +1,10 @@
--- The places of the maps: which sub-index each is, what range it has, what is read there and which rules a write meets.
+-- The places of the dither and of the maps: which of its values or which sub-index each is, what range it has, what is read there and which rules a write meets.
+use mathlib.Core.Bool.{false}
 use mathlib.Core.Path.{_≡_}
 use Prim.Native.Nat.{ℕ, _+_, _-_, _≤_, _<_}
 use native.Mathlib.Omega.{arith}
 use borrow.Author.Tests.{lt-ltb, le-ltb}
-use lib.Dec.{T}
+use lib.Dec.{T, ltb}
 use lib.IntN.{ℤ, pos, negsuc, natAbs}
 use lib.Signed.{_≤ℤ_, nonNeg}
 use mir.Syntax.{w32}
@@ -12,12 +13,13 @@ use Rattle.integers.specs.Words.{_is_}
 use Rattle.integers.specs.Range.{Within}
 use Rattle.integers.proofs.Linear.{ints}
 use Rattle.integers.proofs.Cases.{by-cases, by-less}
-use Rattle.objects.specs.Places.{SETTINGS, RECEIVE-MAP, TRANSMIT-MAP, SET-POINT}
+use Rattle.objects.specs.Places.{SETTINGS, DITHER-TYPE, RECEIVE-MAP, TRANSMIT-MAP, SET-POINT}
 use Rattle.objects.specs.Table.{rowAt, InRange}
 use Rattle.objects.proofs.Rules.{mostAt, IsMap, map-range, receive-map, transmit-map}
 use Rattle.mapping.specs.Maps.{ENTRIES, RECEIVABLE, SENDABLE, standsAt}
 use Rattle.mapping.specs.Rules.{rulingOn}
 use Rattle.mapping.specs.declared.Ruling.the-variants.{Accepted}
+use Rattle.dither.specs.Dither as Dithers
 use Rattle.device.specs.declared.Device.{Device}
 use Rattle.dictionary.specs.Values.{valueAt}
 use Rattle.dictionary.specs.Decide.{mapRuling}
@@ -35,8 +37,25 @@ OfReceive place = In RECEIVE-MAP place
 abbrev pub OfTransmit : ℕ → Type 0
 OfTransmit place = In TRANSMIT-MAP place
 
-pub past-settings : {place : ℕ} → OfTransmit place → SETTINGS ≤ place
-past-settings m = omega (arith, m .0)
+pub past-settings : {place : ℕ} → RECEIVE-MAP ≤ place → ltb place SETTINGS ≡ false
+past-settings {place} h = le-ltb place SETTINGS (omega arith)
+
+pub past-receive : {place : ℕ} → OfTransmit place → RECEIVE-MAP ≤ place
+past-receive m = omega (arith, m .0)
+
+-- a place of the dither
+abbrev pub OfDither : ℕ → Type 0
+OfDither place = DITHER-TYPE ≤ place × place < RECEIVE-MAP
+
+-- each is one of its three values, and no two are the same
+pub one-of-three : {place : ℕ} → OfDither place → place - DITHER-TYPE < 3
+one-of-three m = omega (arith, m .0, m .1)
+
+pub value-apart : {place k : ℕ} → OfDither place → OfDither k → k - DITHER-TYPE ≡ place - DITHER-TYPE → k ≡ place
+value-apart m q e = omega (arith, m .0, q .0, e)
+
+pub dither-place : {place : ℕ} → OfDither place → DITHER-TYPE + (place - DITHER-TYPE) ≡ place
+dither-place m = omega (arith, m .0)
 
 -- each is a sub-index of its map, and no two are the same
 pub sub-most : {first place : ℕ} → In first place → place - first ≤ ENTRIES
@@ -85,13 +104,17 @@ map-number {place} m x w =
 -- ---- what is read
 
 module _ (d : Device) (place : ℕ) where
+  pub value-of-dither : OfDither place → valueAt d place ≡ Dithers.standsAt (d .dither) (place - DITHER-TYPE)
+  unfolding valueAt
+  value-of-dither m = rw (le-ltb place SETTINGS (m .0), lt-ltb place RECEIVE-MAP (m .1))
+
   pub value-of-receive : OfReceive place → valueAt d place ≡ pos (standsAt (d .maps .receive) (place - RECEIVE-MAP))
   unfolding valueAt
-  value-of-receive m = rw (le-ltb place SETTINGS (m .0), lt-ltb place TRANSMIT-MAP (m .1))
+  value-of-receive m = rw (past-settings (m .0), le-ltb place RECEIVE-MAP (m .0), lt-ltb place TRANSMIT-MAP (m .1))
 
   pub value-of-transmit : OfTransmit place → valueAt d place ≡ pos (standsAt (d .maps .transmit) (place - TRANSMIT-MAP))
   unfolding valueAt
-  value-of-transmit m = rw (le-ltb place SETTINGS (past-settings m), le-ltb place TRANSMIT-MAP (m .0), lt-ltb place SET-POINT (m .1))
+  value-of-transmit m = rw (past-settings (past-receive m), le-ltb place RECEIVE-MAP (past-receive m), le-ltb place TRANSMIT-MAP (m .0), lt-ltb place SET-POINT (m .1))
 
 -- ---- the rules that a write meets
 
@@ -102,4 +125,4 @@ module _ (d : Device) {place : ℕ} (x : ℤ) where
 
   pub transmit-ruled : OfTransmit place → mapRuling (d .maps) place x ≡ Accepted → rulingOn SENDABLE (d .maps .transmit) (place - TRANSMIT-MAP) (natAbs x) ≡ Accepted
   unfolding mapRuling
-  transmit-ruled m e = rw (le-ltb place RECEIVE-MAP (past-settings m), le-ltb place TRANSMIT-MAP (m .0), lt-ltb place SET-POINT (m .1)) at e
+  transmit-ruled m e = rw (le-ltb place RECEIVE-MAP (past-receive m), le-ltb place TRANSMIT-MAP (m .0), lt-ltb place SET-POINT (m .1)) at e

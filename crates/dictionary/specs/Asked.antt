@@ -16,7 +16,7 @@ pub record Placed (d : Device) (place : ℕ) : Type 0 where
   pub sound : Sound d
   pub below : place < ROWS
 
--- and one that is neither a stored setting's nor a map's
+-- and one that is neither a stored setting's nor the dither's nor a map's
 pub record Other (d : Device) (place : ℕ) : Type 0 where
   pub placed : Placed d place
   pub past : SET-POINT ≤ place

@@ -1,11 +1,12 @@
--- Document 01, "Objects", with the maps of wish 2 of document 02: what the value at a place is, and what an accepted write of it does.
+-- Document 01, "Objects", with the maps and the dither of wishes 2 and 4 of document 02: what the value at a place is, and what an accepted write of it does.
 use Prim.Native.Nat.{ℕ, _-_}
 use lib.IntN.{ℤ, pos, natAbs}
 use Rattle.integers.specs.Words.{if_then_else_, _is_, _below_}
-use Rattle.objects.specs.Places.{SETTINGS, RECEIVE-MAP, TRANSMIT-MAP, SET-POINT, CONTROL-WORD, STATUS-WORD, ERROR-CODE, COMMAND}
+use Rattle.objects.specs.Places.{SETTINGS, DITHER-TYPE, RECEIVE-MAP, TRANSMIT-MAP, SET-POINT, CONTROL-WORD, STATUS-WORD, ERROR-CODE, COMMAND}
 use Rattle.block.specs.Block.{setting, withSetting, withSetpoint}
 use Rattle.mapping.specs.Maps.{standsAt, withAt, withReceive, withTransmit}
-use Rattle.device.specs.Device.{withBlock, withMaps}
+use Rattle.dither.specs.Dither as Dithers
+use Rattle.device.specs.Device.{withBlock, withMaps, withDither}
 use Rattle.device.specs.Events.{controlled}
 use Rattle.device.specs.Queries.{statusOf, deviceCommand}
 use Rattle.device.specs.declared.Device.{Device}
@@ -14,6 +15,7 @@ use Rattle.device.specs.declared.Device.{Device}
 unfoldable pub valueAt : Device → ℕ → ℤ
 valueAt d place =
     if place below SETTINGS then setting (d .block) place
+    else if place below RECEIVE-MAP then Dithers.standsAt (d .dither) (place - DITHER-TYPE)
     else if place below TRANSMIT-MAP then pos (standsAt (d .maps .receive) (place - RECEIVE-MAP))
     else if place below SET-POINT then pos (standsAt (d .maps .transmit) (place - TRANSMIT-MAP))
     else if place is SET-POINT then d .block .setpoint
@@ -34,6 +36,7 @@ transmitWritten sub number d = withMaps (withTransmit (withAt sub number (d .map
 unfoldable pub writtenTo : ℕ → ℤ → Device → Device
 writtenTo place value d =
     if place below SETTINGS then withBlock (withSetting place value (d .block)) d
+    else if place below RECEIVE-MAP then withDither (Dithers.withAt (place - DITHER-TYPE) value (d .dither)) d
     else if place below TRANSMIT-MAP then receiveWritten (place - RECEIVE-MAP) (natAbs value) d
     else if place below SET-POINT then transmitWritten (place - TRANSMIT-MAP) (natAbs value) d
     else if place is SET-POINT then withBlock (withSetpoint value (d .block)) d

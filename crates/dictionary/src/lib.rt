@@ -16,6 +16,7 @@ use mapping::RECEIVABLE;
 use mapping::Ruling;
 use mapping::SENDABLE;
 use objects::CONTROL_WORD;
+use objects::DITHER_TYPE;
 use objects::ERROR_CODE;
 use objects::Entry;
 use objects::LOWER_LIMIT;
@@ -80,7 +81,7 @@ fn map_value(device: Device, place: usize) -> i64
     }
 }
 
-// The value of an object that is neither a stored setting nor a map.
+// The value of an object that is neither a stored setting nor of the dither nor a map.
 fn other_value(device: Device, place: usize) -> i64
     requires { ⌜ Other device place ⌝ }
     ensures { λ r. ⌜ Valued device place r ⌝ }
@@ -105,6 +106,9 @@ fn value_at(device: Device, place: usize) -> i64
     if place < SETTINGS {
         let block = device.block;
         block::setting(block, place)
+    } else if place < RECEIVE_MAP {
+        let dither = device.dither;
+        dither::stands_at(dither, place - DITHER_TYPE)
     } else if place < SET_POINT {
         map_value(device, place)
     } else {
@@ -309,6 +313,11 @@ fn written_to(device: Device, place: usize, value: i64) -> Device
     let block = device.block;
     if place < SETTINGS {
         return device::with_block(device, block::with_setting(block, place, value));
+    }
+    if place < RECEIVE_MAP {
+        let dither = device.dither;
+        let dither = dither::with_at(dither, place - DITHER_TYPE, value);
+        return device::with_dither(device, dither);
     }
     if place < SET_POINT {
         return map_written(device, place, value);

@@ -2,12 +2,12 @@
 use mathlib.Core.Path.{_≡_, refl, ap, _∙_}
 use mathlib.Core.Bool.{Bool, true, false, not, cond, _&&_, _||_}
 use mathlib.Core.List.{List, [], _∷_}
-use Prim.Native.Nat.{ℕ, suc, _+_, _-_, _≤_, _<_}
+use Prim.Native.Nat.{ℕ, zero, suc, _+_, _-_, _≤_, _<_}
 use native.Mathlib.Omega.{arith}
 use borrow.Author.Tests.{eqb-true, ne-eqb, ltb-true, ltb-false}
 use Rattle.integers.specs.Words.{each, _is_, _=?_}
 use lib.IntN.{ℤ, pos}
-use lib.ListN.{length}
+use lib.ListN.{length, take, drop}
 use lib.Signed.{leZ}
 use Rattle.integers.proofs.Cases.{by-cases, by-test, apart}
 use Rattle.integers.specs.Range.{Within}
@@ -15,7 +15,7 @@ use Rattle.integers.proofs.Linear.{ints}
 use Rattle.integers.proofs.Each.{and-split, and-both, each-at}
 use Rattle.integers.proofs.Machine.{=?-yes}
 use lib.Dec.{eqb, ltb}
-use Rattle.objects.specs.Places.{RECEIVE-MAP, TRANSMIT-MAP, WRITABLE, ROWS}
+use Rattle.objects.specs.Places.{SETTINGS, RECEIVE-MAP, TRANSMIT-MAP, WRITABLE, ROWS}
 use Rattle.objects.specs.Table.{VARIABLE, MAP, I8, U32, U8, objects, columnsAt, rowAt, liesIn}
 use Rattle.objects.specs.Lookup.{placeFrom, placeOf, recordEntry, entryAt}
 use Rattle.objects.specs.declared.Columns.{Columns}
@@ -96,10 +96,15 @@ unfolding placeFrom
 absent-from place [] index h = refl
 absent-from place (row ∷ rows) index h = rw (ne-eqb (row .0) index (h .0)) (absent-from (suc place) rows index (h .1))
 
--- an index that no row has is found nowhere
-pub no-other-index : (index : ℕ) → Absent objects index → placeOf index ≡ Nowhere
+absent-both : (n : ℕ) (rows : List Columns) (index : ℕ) → Absent (take n rows) index → Absent (drop n rows) index → Absent rows index
+absent-both zero rows index p q = q
+absent-both (suc n) [] index p q = tt
+absent-both (suc n) (row ∷ rows) index p q = (p .0, absent-both n rows index (p .1) q)
+
+-- an index that no row has, neither of the stored settings nor after them, is found nowhere
+pub no-other-index : (index : ℕ) → Absent (take SETTINGS objects) index → Absent (drop SETTINGS objects) index → placeOf index ≡ Nowhere
 unfolding placeOf
-no-other-index index h = absent-from 0 objects index h
+no-other-index index h k = absent-from 0 objects index (absent-both SETTINGS objects index h k)
 
 -- a place that was found is within the table
 below-from : (place : ℕ) (rows : List Columns) (index k : ℕ) → placeFrom place rows index ≡ At k → k < place + length rows

@@ -1,4 +1,4 @@
--- Document 01, "Objects", with the maps of wish 2: which object has an index, and what stands at a sub-index.
+-- Document 01, "Objects", with the maps of wish 2 and the dither of wish 4: which object has an index, and what stands at a sub-index.
 use mathlib.Core.Bool.{_||_}
 use mathlib.Core.List.{List, [], _∷_}
 use Prim.Native.Nat.{ℕ, suc}

@@ -53,34 +53,43 @@ B-SIDE = 15
 abbrev pub THRESHOLD : ℕ
 THRESHOLD = 16
 
+abbrev pub DITHER-TYPE : ℕ
+DITHER-TYPE = 17
+
+abbrev pub DITHER-AMPLITUDE : ℕ
+DITHER-AMPLITUDE = 18
+
+abbrev pub DITHER-FREQUENCY : ℕ
+DITHER-FREQUENCY = 19
+
 -- a map has five: its number of entries, and then the four entries
 abbrev pub RECEIVE-MAP : ℕ
-RECEIVE-MAP = 17
+RECEIVE-MAP = 20
 
 abbrev pub TRANSMIT-MAP : ℕ
-TRANSMIT-MAP = 22
+TRANSMIT-MAP = 25
 
 abbrev pub SET-POINT : ℕ
-SET-POINT = 27
+SET-POINT = 30
 
 abbrev pub CONTROL-WORD : ℕ
-CONTROL-WORD = 28
+CONTROL-WORD = 31
 
 abbrev pub STATUS-WORD : ℕ
-STATUS-WORD = 29
+STATUS-WORD = 32
 
 abbrev pub ERROR-CODE : ℕ
-ERROR-CODE = 30
+ERROR-CODE = 33
 
 abbrev pub COMMAND : ℕ
-COMMAND = 31
+COMMAND = 34
 
 -- how many are stored settings, how many can be written, and how many there are
 abbrev pub SETTINGS : ℕ
 SETTINGS = 17
 
 abbrev pub WRITABLE : ℕ
-WRITABLE = 29
+WRITABLE = 32
 
 abbrev pub ROWS : ℕ
-ROWS = 32
+ROWS = 35

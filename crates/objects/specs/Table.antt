@@ -1,4 +1,5 @@
--- Document 01, "Objects", with the maps of wish 2 of document 02: the table, a row for each value, the stored settings first and in tag order.
+-- Document 01, "Objects", with the maps and the dither of wishes 2 and 4 of document 02: the table, a row for each value,
+-- the stored settings first and in tag order.
 use mathlib.Core.Bool.{Bool, _&&_, _||_}
 use mathlib.Core.List.{List, [], _∷_}
 use Prim.Native.Nat.{ℕ}
@@ -6,7 +7,7 @@ use lib.IntN.{ℤ, pos}
 use lib.ListN.{getD}
 use Rattle.integers.specs.Words.{minus, _≤?_, _is_}
 use Rattle.integers.specs.Range.{Within}
-use Rattle.objects.specs.Places.{RAMP-TYPE, DEAD-BAND-TYPE}
+use Rattle.objects.specs.Places.{RAMP-TYPE, DEAD-BAND-TYPE, DITHER-TYPE}
 use Rattle.objects.specs.declared.Row.{Row}
 use Rattle.objects.specs.declared.Columns.{Columns}
 
@@ -78,6 +79,9 @@ objects =
     row 0x6343 1 RECORD I16 2 RW (pos 0) (pos 4096) (pos 0) WHILE-ACTIVE ∷  -- dead band A side
     row 0x6344 1 RECORD I16 2 RW (pos 0) (pos 4096) (pos 0) WHILE-ACTIVE ∷  -- dead band B side
     row 0x6345 1 RECORD I16 2 RW (pos 0) (pos 16384) (pos 0) WHILE-ACTIVE ∷  -- dead band threshold
+    row 0x6360 0 VARIABLE I8 1 RW (pos 0) (pos 2) (pos 0) WHILE-ACTIVE ∷  -- dither type
+    row 0x6361 1 RECORD U16 2 RW (pos 0) (pos 1024) (pos 0) WHILE-ACTIVE ∷  -- dither amplitude
+    row 0x6362 1 RECORD U16 2 RW (pos 0) (pos 250) (pos 0) WHILE-ACTIVE ∷  -- dither frequency
     row 0x1600 0 MAP U8 1 RW (pos 0) (pos 255) (pos 0) FREE ∷  -- receive map: number of entries
     row 0x1600 1 MAP U32 4 RW (pos 0) (pos 4294967295) (pos 0) FREE ∷  -- entry 1
     row 0x1600 2 MAP U32 4 RW (pos 0) (pos 4294967295) (pos 0) FREE ∷  -- entry 2
@@ -103,9 +107,9 @@ columnsAt place = getD objects place (row 0 0 VARIABLE U16 2 RO (pos 0) (pos 0) 
 unfoldable pub isSigned : ℕ → Bool
 isSigned kind = kind is I8 || kind is I16
 
--- a choice among numbered kinds: 6330h and 6342h
+-- a choice among numbered kinds: 6330h, 6342h and 6360h
 unfoldable pub isChoice : ℕ → Bool
-isChoice place = place is RAMP-TYPE || place is DEAD-BAND-TYPE
+isChoice place = place is RAMP-TYPE || place is DEAD-BAND-TYPE || place is DITHER-TYPE
 
 -- the row at a place, by the names of its columns
 abbrev pub rowAt : ℕ → Row

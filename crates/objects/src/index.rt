@@ -46,3 +46,9 @@ pub const A_SIDE: u16 = 0x6343;
 pub const B_SIDE: u16 = 0x6344;
 
 pub const THRESHOLD: u16 = 0x6345;
+
+pub const DITHER_TYPE: u16 = 0x6360;
+
+pub const DITHER_AMPLITUDE: u16 = 0x6361;
+
+pub const DITHER_FREQUENCY: u16 = 0x6362;

@@ -1,4 +1,4 @@
-// The object table of document 01. What is read, written, kept sound, stored and loaded goes by its rows.
+// The object table of document 01, with the maps and the dither of document 02. What is read, written, kept sound, stored and loaded goes by its rows.
 ghost use mathlib.Core.Path.{_≡_};
 ghost use Prim.Native.Nat.{_+_, _-_};
 ghost use Rattle.objects.specs.Table.{columnsAt, rowAt, liesIn, inRow};
@@ -73,26 +73,32 @@ pub const B_SIDE: usize = 15;
 
 pub const THRESHOLD: usize = 16;
 
-pub const RECEIVE_MAP: usize = 17;
+pub const DITHER_TYPE: usize = 17;
 
-pub const TRANSMIT_MAP: usize = 22;
+pub const DITHER_AMPLITUDE: usize = 18;
 
-pub const SET_POINT: usize = 27;
+pub const DITHER_FREQUENCY: usize = 19;
 
-pub const CONTROL_WORD: usize = 28;
+pub const RECEIVE_MAP: usize = 20;
 
-pub const STATUS_WORD: usize = 29;
+pub const TRANSMIT_MAP: usize = 25;
 
-pub const ERROR_CODE: usize = 30;
+pub const SET_POINT: usize = 30;
 
-pub const COMMAND: usize = 31;
+pub const CONTROL_WORD: usize = 31;
+
+pub const STATUS_WORD: usize = 32;
+
+pub const ERROR_CODE: usize = 33;
+
+pub const COMMAND: usize = 34;
 
 // How many are stored settings, how many can be written, and how many there are.
 pub const SETTINGS: usize = 17;
 
-pub const WRITABLE: usize = 29;
+pub const WRITABLE: usize = 32;
 
-pub const ROWS: usize = 32;
+pub const ROWS: usize = 35;
 
 // A row as the table prints it: index, sub-index, entries, type, size, access, low, high, fresh value, lock.
 pub struct Columns(
@@ -156,6 +162,9 @@ const OBJECTS: [Columns; ROWS] = [
     Columns(0x6343, 1, RECORD, I16, 2, RW, 0, 4096, 0, WHILE_ACTIVE), // dead band A side
     Columns(0x6344, 1, RECORD, I16, 2, RW, 0, 4096, 0, WHILE_ACTIVE), // dead band B side
     Columns(0x6345, 1, RECORD, I16, 2, RW, 0, 16384, 0, WHILE_ACTIVE), // dead band threshold
+    Columns(0x6360, 0, VARIABLE, I8, 1, RW, 0, 2, 0, WHILE_ACTIVE), // dither type
+    Columns(0x6361, 1, RECORD, U16, 2, RW, 0, 1024, 0, WHILE_ACTIVE), // dither amplitude
+    Columns(0x6362, 1, RECORD, U16, 2, RW, 0, 250, 0, WHILE_ACTIVE), // dither frequency
     Columns(0x1600, 0, MAP, U8, 1, RW, 0, 255, 0, FREE), // receive map: number of entries
     Columns(0x1600, 1, MAP, U32, 4, RW, 0, 4294967295, 0, FREE), // entry 1
     Columns(0x1600, 2, MAP, U32, 4, RW, 0, 4294967295, 0, FREE), // entry 2
@@ -212,7 +221,10 @@ fn columns_at(place: usize) -> Columns
         28 => table[28],
         29 => table[29],
         30 => table[30],
-        _ => table[31],
+        31 => table[31],
+        32 => table[32],
+        33 => table[33],
+        _ => table[34],
     }
 }
 
@@ -226,7 +238,10 @@ fn is_signed(kind: u8) -> bool
 fn is_choice(place: usize) -> bool
     ensures { λ r. ⌜ r ≡ Table.isChoice place ⌝ }
 {
-    place == RAMP_TYPE || place == DEAD_BAND_TYPE
+    match place {
+        RAMP_TYPE | DEAD_BAND_TYPE | DITHER_TYPE => true,
+        _ => false,
+    }
 }
 
 // The row at a place.
@@ -289,8 +304,11 @@ pub fn index_of(place: usize) -> u16
         A_SIDE => index::A_SIDE,
         B_SIDE => index::B_SIDE,
         THRESHOLD => index::THRESHOLD,
-        17..=21 => index::RECEIVE_MAP,
-        22..=26 => index::TRANSMIT_MAP,
+        DITHER_TYPE => index::DITHER_TYPE,
+        DITHER_AMPLITUDE => index::DITHER_AMPLITUDE,
+        DITHER_FREQUENCY => index::DITHER_FREQUENCY,
+        20..=24 => index::RECEIVE_MAP,
+        25..=29 => index::TRANSMIT_MAP,
         SET_POINT => index::SET_POINT,
         CONTROL_WORD => index::CONTROL_WORD,
         STATUS_WORD => index::STATUS_WORD,
@@ -330,6 +348,7 @@ pub fn place_of(index: u16) -> Place
         0x6320..=0x6324 => in_run(UPPER_LIMIT, 0x6320, index),
         0x6330..=0x6336 => in_run(RAMP_TYPE, 0x6330, index),
         0x6342..=0x6345 => in_run(DEAD_BAND_TYPE, 0x6342, index),
+        0x6360..=0x6362 => in_run(DITHER_TYPE, 0x6360, index),
         _ => Place::Nowhere,
     }
 }

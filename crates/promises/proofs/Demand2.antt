@@ -181,6 +181,7 @@ write d place x b room a h =
       state = λ n. rw device (written-aside d place x (a .writable) n .state);
       error = λ n. rw device (written-aside d place x (a .writable) n .error);
       position = λ n. rw device (written-aside d place x (a .writable) n .position);
+      phase = λ n. rw device (written-aside d place x (a .writable) n .phase);
       others = λ index sub n o p c e r. rw device (others a index sub n o p c e r);
     }
 

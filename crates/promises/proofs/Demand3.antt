@@ -64,7 +64,7 @@ module _ {d : Device} (s : Sound d) where
   ticks-done zero = refl
   ticks-done (suc n) = ap (λ (c : Change). tickAnswer (c .device)) (ticks-done n) ∙ rw (times-sound n .sound)
 
-  ticks-jump : (n : ℕ) → ticks n d ≡ jumpAnswer d n
+  pub ticks-jump : (n : ℕ) → ticks n d ≡ jumpAnswer d n
   unfolding jumpAnswer
   ticks-jump n = rw (s .sound) (ticks-done n ∙ ap (change Done) (Travel.demand3 s .ticks n))
 

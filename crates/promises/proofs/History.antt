@@ -1,4 +1,4 @@
--- Every call keeps a sound device sound, and hands back 1 of an unsound one alone. What alters nothing is an event, which keeps settings and set point, or leaves the device; an acknowledged write to 6040h is such an event. Each law of one call goes along the list.
+-- Every call keeps a sound device sound, and hands back 1 of an unsound one alone. What alters nothing is an event, which keeps settings, set point, maps and, but for its phase, dither, or leaves the device; an acknowledged write to 6040h is such an event. Each law of one call goes along the list.
 use mathlib.Core.Bool.{Bool, true, false, not, _&&_}
 use mathlib.Core.List.{List, [], _∷_}
 use mathlib.Core.Logic.{_≢_}
@@ -102,7 +102,7 @@ module _ {d : Device} (s : Sound d) where
   number-other : (c : Call) → number c d ≢ 1
   number-other c e = refusals-other c (sym (demand1 .ordered c d) ∙ e)
 
--- ---- what alters nothing keeps settings and set point
+-- ---- what alters nothing keeps settings, set point, maps and dither
 
 -- 6040h names the control word alone
 names-control : (sub place : ℕ) → named 0x6040 sub ≡ value place → place ≡ CONTROL-WORD

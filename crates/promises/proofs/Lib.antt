@@ -7,6 +7,8 @@ pub mod Demand2
 pub mod Demand3
 pub mod WriteLength
 pub mod History
+pub mod Alike
 pub mod MapWrites
 pub mod ProcessData
+pub mod Dithering
 pub mod Examples

@@ -122,10 +122,10 @@ written-of : (w : Direction) (d : Device) (k n : ℕ) → k ≤ ENTRIES → writ
 unfolding writtenTo
 written-of receiving d k n h =
     let e : (RECEIVE-MAP + k) - RECEIVE-MAP ≡ k = omega arith in
-    rw (le-ltb (RECEIVE-MAP + k) SETTINGS (omega arith), lt-ltb (RECEIVE-MAP + k) TRANSMIT-MAP (omega arith), e)
+    rw (le-ltb (RECEIVE-MAP + k) SETTINGS (omega arith), le-ltb (RECEIVE-MAP + k) RECEIVE-MAP (omega arith), lt-ltb (RECEIVE-MAP + k) TRANSMIT-MAP (omega arith), e)
 written-of sending d k n h =
     let e : (TRANSMIT-MAP + k) - TRANSMIT-MAP ≡ k = omega arith in
-    rw (le-ltb (TRANSMIT-MAP + k) SETTINGS (omega arith), le-ltb (TRANSMIT-MAP + k) TRANSMIT-MAP (omega arith), lt-ltb (TRANSMIT-MAP + k) SET-POINT (omega arith), e)
+    rw (le-ltb (TRANSMIT-MAP + k) SETTINGS (omega arith), le-ltb (TRANSMIT-MAP + k) RECEIVE-MAP (omega arith), le-ltb (TRANSMIT-MAP + k) TRANSMIT-MAP (omega arith), lt-ltb (TRANSMIT-MAP + k) SET-POINT (omega arith), e)
 
 -- a map is no limit
 uncrossed : (w : Direction) (d : Device) (k : ℕ) (x : ℤ) → crosses d (mapPlace w + k) x ≡ false
@@ -388,8 +388,8 @@ long sending s = transmit-parts s .long
 -- status word, error code and command know nothing of maps
 aside : (w : Direction) (k n : ℕ) (d : Device) (j : ℕ) → j < ROWS → WRITABLE ≤ j → valueAt (mapWritten w k n d) j ≡ valueAt d j
 unfolding valueAt statusOf targetMet deviceCommand
-aside receiving k n d j h l = rw (le-ltb j SETTINGS (omega arith), le-ltb j TRANSMIT-MAP (omega arith), le-ltb j SET-POINT (omega arith))
-aside sending k n d j h l = rw (le-ltb j SETTINGS (omega arith), le-ltb j TRANSMIT-MAP (omega arith), le-ltb j SET-POINT (omega arith))
+aside receiving k n d j h l = rw (le-ltb j SETTINGS (omega arith), le-ltb j RECEIVE-MAP (omega arith), le-ltb j TRANSMIT-MAP (omega arith), le-ltb j SET-POINT (omega arith))
+aside sending k n d j h l = rw (le-ltb j SETTINGS (omega arith), le-ltb j RECEIVE-MAP (omega arith), le-ltb j TRANSMIT-MAP (omega arith), le-ltb j SET-POINT (omega arith))
 
 module _ (w : Direction) {d : Device} (s : Sound d) (k n : ℕ) (h : k ≤ 4) (o : mapOutcome w d k n ≡ Written) where
   -- what is acknowledged is a number that its request has

@@ -9,7 +9,7 @@ use Rattle.integers.specs.Words.{each, if_then_else_, _is_}
 use Rattle.integers.proofs.Cases.{by-cases}
 use Rattle.integers.proofs.Each.{each-at}
 use Rattle.device.specs.States.{bit, fromDisabled, fromHold, fromActive, fromFault, nextState, driven}
-use Rattle.device.specs.Events.{blockIn, errorIn, entering, controlled, reported, faulted}
+use Rattle.device.specs.Events.{blockIn, ditherIn, errorIn, entering, controlled, reported, faulted}
 use Rattle.device.specs.Sound.{isState, Sound}
 use Rattle.device.specs.declared.Device.{Device}
 use Rattle.device.proofs.Laws.{device-parts}
@@ -75,11 +75,11 @@ next-is {d} s word =
 -- ---- of the calls
 
 entered : (d : Device) (state : ℕ) → Entered d (entering state d) state
-unfolding entering blockIn driven
+unfolding entering blockIn ditherIn driven
 entered d state =
     by-cases (state is 1 || state is 2)
-    (λ e. record { state = refl; position = rw e; setpoint = rw e; settings = rw e; maps = refl })
-    (λ e. record { state = refl; position = rw e; setpoint = rw e; settings = rw e; maps = refl })
+    (λ e. record { state = refl; position = rw e; setpoint = rw e; settings = rw e; maps = refl; dither = rw e })
+    (λ e. record { state = refl; position = rw e; setpoint = rw e; settings = rw e; maps = refl; dither = rw e })
 
 module _ {d : Device} (s : Sound d) (word : ℕ) where
   controls : controlAnswer d word .device ≡ controlled word d
@@ -90,7 +90,7 @@ module _ {d : Device} (s : Sound d) (word : ℕ) where
   unfolding controlled
   moved =
       let e = entered d (nextState (d .state) (d .control) word) in
-      rw (controls, ← next-is s word) (record { state = e .state; position = e .position; setpoint = e .setpoint; settings = e .settings; maps = e .maps })
+      rw (controls, ← next-is s word) (record { state = e .state; position = e .position; setpoint = e .setpoint; settings = e .settings; maps = e .maps; dither = e .dither })
 
   pub word-stored : after (control word) d .control ≡ word
   unfolding controlled
@@ -106,11 +106,11 @@ module _ {d : Device} (s : Sound d) (code : ℕ) (h : 1 ≤ code) where
   faults = rw (s .sound, ne-eqb code 0 (λ e. omega (arith, h, e)))
 
   pub to-fault : Entered d (after (fault code) d) 3
-  unfolding faulted entering blockIn driven reported
+  unfolding faulted entering blockIn ditherIn driven reported
   to-fault =
       by-cases (d .state is 3)
-      (λ e. record { state = rw faults; position = rw faults; setpoint = rw (faults, e); settings = rw (faults, e); maps = rw (faults, e) })
-      (λ e. record { state = rw faults; position = rw faults; setpoint = rw (faults, e); settings = rw (faults, e); maps = rw (faults, e) })
+      (λ e. record { state = rw faults; position = rw faults; setpoint = rw (faults, e); settings = rw (faults, e); maps = rw (faults, e); dither = rw (faults, e) })
+      (λ e. record { state = rw faults; position = rw faults; setpoint = rw (faults, e); settings = rw (faults, e); maps = rw (faults, e); dither = rw (faults, e) })
 
   pub first-code : after (fault code) d .error ≡ (if d .state is 3 then d .error else code)
   unfolding faulted entering errorIn reported

@@ -8,13 +8,15 @@ use Rattle.objects.specs.Places.{WRITABLE}
 use Rattle.objects.specs.Table.{objects, rowAt}
 use Rattle.block.specs.Block.{freshBlock}
 use Rattle.mapping.specs.Maps.{standsAt, freshMap, freshMaps}
+use Rattle.dither.specs.Dither.{freshDither}
+use Rattle.dither.specs.Dither as Dithers
 use Rattle.device.specs.Device.{freshDevice}
 use Rattle.dictionary.specs.Values.{valueAt}
 use Rattle.promises.specs.Names.{Names}
 
 -- by a test that is computed over the rows
 fresh-values : (place : ℕ) → place < WRITABLE → valueAt freshDevice place ≡ rowAt place .fresh
-unfolding each objects valueAt freshDevice freshBlock standsAt freshMaps freshMap
+unfolding each objects valueAt freshDevice freshBlock standsAt freshMaps freshMap Dithers.standsAt freshDither
 fresh-values place h = =?-yes _ _ (each-at WRITABLE (λ k. valueAt freshDevice k =? rowAt k .fresh) place refl h)
 
 pub names : Names
@@ -39,6 +41,7 @@ names =
       a-side = refl;
       b-side = refl;
       threshold = refl;
+      dither = refl;
       receive-map = refl;
       transmit-map = refl;
       of-variables = refl;

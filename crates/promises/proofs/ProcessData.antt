@@ -8,17 +8,14 @@ use borrow.Author.Tests.{le-ltb}
 use lib.Dec.{ltb}
 use lib.ListN.{length, getD, take, drop, List·getD-append}
 use Rattle.integers.specs.Words.{_is_, _among_}
-use Rattle.integers.proofs.Cases.{by-cases, by-test}
+use Rattle.integers.proofs.Cases.{by-test}
 use Rattle.objects.specs.Table.{objects}
 use Rattle.objects.specs.Lookup.{placeFrom, placeOf, recordEntry, entryAt}
 use Rattle.coding.specs.Bytes.{byteAt, byteOf, fourOf, fourBytes}
 use Rattle.coding.specs.Coding.{valueOf}
-use Rattle.block.specs.Sound.{soundSettings}
 use Rattle.mapping.specs.Maps.{bytesOf, entryOf, lengthOf, freshMap, freshMaps, counted, mapLength}
-use Rattle.mapping.specs.Sound.{soundMaps}
-use Rattle.mapping.specs.declared.Maps.{Maps}
+use Rattle.dither.specs.Dither.{atPhase}
 use Rattle.device.specs.Device.{freshDevice, withMaps}
-use Rattle.device.specs.States.{DISABLED}
 use Rattle.device.specs.Sound.{soundDevice, Sound}
 use Rattle.device.specs.declared.Device.{Device}
 use Rattle.device.proofs.Laws.{device-parts, with-maps-sound, receive-parts, transmit-parts}
@@ -28,18 +25,17 @@ use Rattle.sdo.specs.Frames.{FRAME, asksOf, frameOf, readReply, repliedIn}
 use Rattle.sdo.specs.Serve.{answer, decisionOn, served}
 use Rattle.sdo.specs.declared.Answer.{Answer}
 use Rattle.sdo.specs.declared.Outcome.the-variants.{Written}
-use Rattle.image.specs.Fields.{IMAGE-LENGTH}
-use Rattle.image.specs.Load.{isFull, settingsIn}
 use Rattle.pdo.specs.Receive.{dataIn, acted}
 use Rattle.pdo.specs.Receive as PDO
 use Rattle.pdo.specs.Send.{sentBy, sentIn}
 use Rattle.pdo.specs.Send as PDO-Send
 use Rattle.pdo.proofs.Laws.{acted-sound, sent-length, sent-at}
-use Rattle.rainsheave.specs.Calls.{change, pdoSent, sdoAnswer, sdoRoom, receiveAnswer, sendAnswer, sendRoom, storeAnswer, storeRoom, loadAnswer}
+use Rattle.rainsheave.specs.Calls.{change, pdoSent, sdoAnswer, sdoRoom, receiveAnswer, sendAnswer, sendRoom, loadAnswer}
 use Rattle.rainsheave.specs.declared.Report.the-variants.{Done}
 use Rattle.rainsheave.specs.declared.Change.{Change}
 use Rattle.rainsheave.proofs.Images.{by-load}
 use Rattle.promises.specs.Demand2.{Data, list, frame, reading}
+use Rattle.promises.proofs.Alike.{stored-alike, loaded-alike}
 use Rattle.promises.proofs.Requests.{request, frame-answered}
 use Rattle.promises.proofs.Demand2.{read-replied}
 use mathlib.Core.Logic.{_≢_}
@@ -104,19 +100,30 @@ received-written (entry ∷ entries) pdo {d} s h =
     let outcome : sdoAnswer d request 8 .outcome ≡ Written = ap (λ (a : Answer). a .outcome) call in
     (rw (received-of-two entry (h .0)) (rest .0 ∙ sym (ap (afterAll (calls (writesOf entries (drop 2 pdo)))) step)), rw (outcome, step) (rest .1))
 
--- no entry is of a map
-acted-keeps : (entry : ℕ) → entry among mappable receiving ≡ true → (d : Device) (pdo : List ℕ) → acted entry pdo d .maps ≡ d .maps
+-- two devices with the same maps and, but for its phase, dither
+pub record Beside (d e : Device) : Type 0 where
+  maps : d .maps ≡ e .maps
+  pub dither : atPhase 0 (d .dither) ≡ atPhase 0 (e .dither)
+
+same-beside : {d : Device} → Beside d d
+same-beside = record { maps = refl; dither = refl }
+
+-- no entry is of a map or of the dither
+acted-keeps : (entry : ℕ) → entry among mappable receiving ≡ true → (d : Device) (pdo : List ℕ) → Beside (acted entry pdo d) d
 unfolding acted writtenTo
 acted-keeps entry h d pdo =
     one-of-three 0x60400010 0x63000110 0x63140110 entry h
-    (λ e. rw (e, word-taken d (dataIn pdo)) (controlled-keeps _ d .maps))
-    (λ e. rw (e, set-point-taken d (dataIn pdo)))
-    (λ e. rw (e, hold-set-point-taken d (dataIn pdo)))
+    (λ e. let k = controlled-keeps _ d in rw (e, word-taken d (dataIn pdo)) (record { maps = k .maps; dither = k .dither }))
+    (λ e. rw (e, set-point-taken d (dataIn pdo)) (record { maps = refl; dither = refl }))
+    (λ e. rw (e, hold-set-point-taken d (dataIn pdo)) (record { maps = refl; dither = refl }))
 
-received-keeps : (entries pdo : List ℕ) (d : Device) → Receivable entries → PDO.received entries pdo d .maps ≡ d .maps
+received-keeps : (entries pdo : List ℕ) (d : Device) → Receivable entries → Beside (PDO.received entries pdo d) d
 unfolding PDO.received
-received-keeps [] pdo d h = refl
-received-keeps (entry ∷ entries) pdo d h = received-keeps entries (drop (bytesOf entry) pdo) (acted entry pdo d) (h .1) ∙ acted-keeps entry (h .0) d pdo
+received-keeps [] pdo d h = same-beside
+received-keeps (entry ∷ entries) pdo d h =
+    let rest = received-keeps entries (drop (bytesOf entry) pdo) (acted entry pdo d) (h .1) in
+    let one = acted-keeps entry (h .0) d pdo in
+    record { maps = rest .maps ∙ one .maps; dither = rest .dither ∙ one .dither }
 
 counted-receivable : {d : Device} → Sound d → Receivable (counted (d .maps .receive))
 counted-receivable {d} s = receivable-first (d .maps .receive .entries) (d .maps .receive .count) (counted-mapped (mappable receiving) (receive-parts s))
@@ -128,15 +135,15 @@ received d pdo s h =
     let done : receiveAnswer d pdo ≡ change Done (PDO.received (counted (d .maps .receive)) pdo d) = rw (s .sound, receive-length s, le-ltb (length pdo) (pdoLength (d .maps .receive)) h) in
     (ap (λ (c : Change). c .device) done ∙ both .0, both .1)
 
-receive-keeps : (d : Device) (pdo : List ℕ) → Sound d → after (receive pdo) d .maps ≡ d .maps
+pub received-beside : (d : Device) (pdo : List ℕ) → Sound d → Beside (after (receive pdo) d) d
 unfolding receiveAnswer
-receive-keeps d pdo s =
+received-beside d pdo s =
     by-test Keeps (soundDevice d)
-    (λ t. by-test Keeps (ltb (length pdo) (mapLength (d .maps .receive))) (λ e. refl) (λ e. received-keeps (counted (d .maps .receive)) pdo d (counted-receivable s)))
-    (λ t. refl)
+    (λ t. by-test Keeps (ltb (length pdo) (mapLength (d .maps .receive))) (λ e. same-beside) (λ e. received-keeps (counted (d .maps .receive)) pdo d (counted-receivable s)))
+    (λ t. same-beside)
   where
     Keeps : Change → Type 0
-    Keeps c = c .device .maps ≡ d .maps
+    Keeps c = Beside (c .device) d
 
 -- ---- a sent PDO
 
@@ -188,24 +195,6 @@ sent d room k c r s b h l m =
 
 -- ---- storing and loading
 
-module _ (d : Device) (maps : Maps) (s : Sound d) (h : soundMaps maps ≡ true) where
-  other-sound : soundDevice (withMaps maps d) ≡ true
-  other-sound = with-maps-sound s h .sound
-
-  stored-alike : (room : List ℕ) → (storeAnswer (withMaps maps d) (length room) ≡ storeAnswer d (length room)) × (storeRoom (withMaps maps d) room ≡ storeRoom d room)
-  unfolding storeRoom storeAnswer
-  stored-alike room =
-      by-cases (ltb (length room) IMAGE-LENGTH)
-      (λ e. (rw (other-sound, s .sound, e), rw (other-sound, s .sound, e)))
-      (λ e. (rw (other-sound, s .sound, e), rw (other-sound, s .sound, e)))
-
-  loaded-alike : (image : List ℕ) → loadAnswer (withMaps maps d) image ≡ change (loadAnswer d image .report) (withMaps maps (loadAnswer d image .device))
-  unfolding loadAnswer
-  loaded-alike image =
-      by-cases (not (d .state is DISABLED)) (λ e. rw (other-sound, s .sound, e))
-      (λ e. by-cases (not (isFull image)) (λ f. rw (other-sound, s .sound, e, f))
-      (λ f. by-cases (not (soundSettings (settingsIn image))) (λ g. rw (other-sound, s .sound, e, f, g)) (λ g. rw (other-sound, s .sound, e, f, g))))
-
 load-keeps : (d : Device) (image : List ℕ) → loadAnswer d image .device .maps ≡ d .maps
 load-keeps d image = by-load (λ c. c .device .maps ≡ d .maps) d image (λ number. refl) (λ full sound. refl)
 
@@ -225,11 +214,11 @@ process-data =
       kept = λ calls. device-parts (histories .sound calls) .mapped;
       made = made;
       received = received;
-      receive-keeps = receive-keeps;
+      receive-keeps = λ d pdo s. received-beside d pdo s .maps;
       told = told;
       unsent = unsent;
       sent = sent;
-      stored-alike = λ d maps room s h. stored-alike d maps s h room;
-      loaded-alike = λ d maps image s h. loaded-alike d maps s h image;
+      stored-alike = λ d maps room s h. stored-alike (withMaps maps) s (with-maps-sound s h) refl room;
+      loaded-alike = λ d maps image s h. loaded-alike (withMaps maps) s (with-maps-sound s h) refl image refl;
       load-keeps = load-keeps;
     }

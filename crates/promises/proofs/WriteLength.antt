@@ -35,7 +35,7 @@ use Rattle.promises.proofs.Requests.{writes-asks, writes-no-client-abor
 -- ---- where sizes differ, the fifth place is met
 
 -- the bytes of an abort
-abort-replied : (d : Device) (request room : List ℕ) (code : ℕ) → sdoAnswer d request (length room) .outcome ≡ Abort code → sdoRoom d request room ≡ frame 0x80 (indexIn request) (subIn request) (fourBytes code) ++ drop FRAME room
+pub abort-replied : (d : Device) (request room : List ℕ) (code : ℕ) → sdoAnswer d request (length room) .outcome ≡ Abort code → sdoRoom d request room ≡ frame 0x80 (indexIn request) (subIn request) (fourBytes code) ++ drop FRAME room
 unfolding sdoRoom repliedIn frameOf
 abort-replied d request room code e = rw e
 

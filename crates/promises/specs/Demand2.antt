@@ -14,6 +14,7 @@ use Rattle.coding.specs.Bytes.{fourBytes}
 use Rattle.coding.specs.Coding.{numberOf}
 use Rattle.block.specs.Block.{setting}
 use Rattle.mapping.specs.declared.Ruling.the-variants as Ruling
+use Rattle.dither.specs.Dither.{atPhase}
 use Rattle.device.specs.States.{DISABLED, ACTIVE}
 use Rattle.device.specs.Demand.{deviceTargetPosition}
 use Rattle.device.specs.Sound.{Sound}
@@ -76,9 +77,12 @@ telling place x = frame (tells (rowAt place .size)) (rowAt place .index) (valueS
 
 -- ---- a write
 
--- 6330h to 6336h and 6342h to 6345h
+-- 6330h to 6336h, 6342h to 6345h and, by wish 4 of document 02, 6360h to 6362h
 abbrev pub isLockable : ℕ → Bool
-isLockable index = (not (index below 0x6330) && index below 0x6337) || (not (index below 0x6342) && index below 0x6346)
+isLockable index =
+    (not (index below 0x6330) && index below 0x6337)
+    || (not (index below 0x6342) && index below 0x6346)
+    || (not (index below 0x6360) && index below 0x6363)
 
 -- a write that no rule forbids: a value that can be written, in its range, that leaves the limits uncrossed, no lock and no rule of a map;
 -- of the data bytes those that the type has are the value's, and the others whatever they are
@@ -104,10 +108,11 @@ pub record Kept (d : Device) (place : ℕ) (x : ℤ) (b : Data) (room : List ℕ
   pub read-back :
       (c : Data) (r : List ℕ) → 8 ≤ length r →
       sdoRoom (written d place b room) (reading (rowAt place .index) (valueSub place) c) r ≡ telling place x ++ drop 8 r
-  -- but where 6040h was written, state, error code and position are as they were
+  -- but where 6040h was written, state, error code, position and phase are as they were
   pub state : place ≢ CONTROL-WORD → written d place b room .state ≡ d .state
   pub error : place ≢ CONTROL-WORD → written d place b room .error ≡ d .error
   pub position : place ≢ CONTROL-WORD → written d place b room .block .position ≡ d .block .position
+  pub phase : place ≢ CONTROL-WORD → written d place b room .dither .phase ≡ d .dither .phase
   -- every other entry reads as before: all but status word, command and, where 6040h was written, error code
   pub others :
       (index sub : ℕ) → named index sub ≢ value place →
@@ -133,13 +138,14 @@ movedTo state before word =
     else if word % 8 is 7 then 2
     else 1
 
--- the device e is d in a state: with position 0 but in HOLD and ACTIVE, and all settings and maps
+-- the device e is d in a state: with position 0 and phase 0 but in HOLD and ACTIVE, and all settings, maps and else of the dither
 pub record Entered (d e : Device) (to : ℕ) : Type 0 where
   pub state : e .state ≡ to
   pub position : e .block .position ≡ (if to is 1 || to is 2 then d .block .position else pos 0)
   pub setpoint : e .block .setpoint ≡ d .block .setpoint
   pub settings : e .block .settings ≡ d .block .settings
   pub maps : e .maps ≡ d .maps
+  pub dither : e .dither ≡ atPhase (if to is 1 || to is 2 then d .dither .phase else 0) (d .dither)
 
 -- ---- the demand
 

@@ -87,6 +87,10 @@ throughZero = input (pos 100) ∷ control 1 ∷ tick ∷ choice 0x6330 1 ∷ tim
 abbrev deadBand : ℤ → List Call
 deadBand r = choice 0x6342 1 ∷ word 0x6345 (pos 20) ∷ word 0x6343 (pos 300) ∷ word 0x6344 (pos 200) ∷ input r ∷ control 1 ∷ tick ∷ []
 
+-- a dither of a type, an amplitude and a frequency, in HOLD
+abbrev dither : ℕ → ℤ → ℤ → List Call
+dither kind amplitude frequency = choice 0x6360 kind ∷ word 0x6361 amplitude ∷ word 0x6362 frequency ∷ control 1 ∷ []
+
 -- a PDO brings the control word and the set point; it brings the control word twice; one is sent with the status word and the command
 abbrev cyclic : List Call
 cyclic = mapEntry 0x1600 1 0x60400010 ∷ mapEntry 0x1600 2 0x63000110 ∷ mapCount 0x1600 2 ∷ []
@@ -162,5 +166,28 @@ pub record Witnesses : Type 0 where
   pub told-by-pdo :
       left (send (0xAA ∷ 0xAA ∷ 0xAA ∷ 0xAA ∷ 0xAA ∷ [])) (history (telling ++ (control 1 ∷ [])))
       ≡ 0x09 ∷ 0x01 ∷ 0x00 ∷ 0x00 ∷ 0xAA ∷ []
+  -- dither of 250 Hz, a period of four ticks: square, triangle, and off
+  pub square-by-four-ticks :
+      map (λ n. answer command (dither 1 (pos 1024) (pos 250) ++ tickTimes n)) (0 ∷ 1 ∷ 2 ∷ 3 ∷ 4 ∷ [])
+      ≡ map told (pos 1024 ∷ pos 1024 ∷ minus 1024 ∷ minus 1024 ∷ pos 1024 ∷ [])
+  pub triangle-by-four-ticks :
+      map (λ n. answer command (dither 2 (pos 1024) (pos 250) ++ tickTimes n)) (0 ∷ 1 ∷ 2 ∷ 3 ∷ 4 ∷ [])
+      ≡ map told (pos 0 ∷ pos 1024 ∷ pos 0 ∷ minus 1024 ∷ pos 0 ∷ [])
+  pub off-by-four-ticks :
+      map (λ n. answer command (dither 0 (pos 1024) (pos 250) ++ tickTimes n)) (0 ∷ 1 ∷ 2 ∷ 3 ∷ [])
+      ≡ map told (pos 0 ∷ pos 0 ∷ pos 0 ∷ pos 0 ∷ [])
+  -- in HOLD at 20 ir, inside the dead band, it is the dither alone; at -16300 ir the last clamp takes in the dither
+  pub dither-alone : answer command (dither 1 (pos 7) (pos 0) ++ deadBand (pos 20)) ≡ told (pos 7)
+  pub dither-clamped :
+      map (λ n. answer command (deadBand (minus 16300) ++ dither 1 (pos 100) (pos 250) ++ tickTimes n)) (0 ∷ 2 ∷ [])
+      ≡ map told (minus 16384 ∷ minus 16384 ∷ [])
+  -- the phase after one tick at 1, 3, 4 and 249 Hz, fraction dropped; at 249 Hz the fifth tick runs over the end
+  pub increments :
+      map (λ hertz. history (dither 1 (pos 7) (pos hertz) ++ tickTimes 1) .dither .phase) (1 ∷ 3 ∷ 4 ∷ 249 ∷ [])
+      ≡ 4294967 ∷ 12884901 ∷ 17179869 ∷ 1069446856 ∷ []
+  pub over-the-end : history (dither 1 (pos 7) (pos 249) ++ tickTimes 5) .dither .phase ≡ 1052266984
+  -- the phase goes on from HOLD to ACTIVE and back, and is 0 after a fault
+  pub phase-goes-on : history (dither 1 (pos 7) (pos 250) ++ (tick ∷ control 7 ∷ tick ∷ control 1 ∷ tick ∷ [])) .dither .phase ≡ 3221225472
+  pub phase-after-fault : history (dither 1 (pos 7) (pos 250) ++ (tick ∷ control 7 ∷ tick ∷ fault 0x1000 ∷ [])) .dither .phase ≡ 0
   -- the factor counts: with the largest, an input of 1 is at full stroke
   pub factor-counts : answer target (factor 4294967295 ∷ input (pos 1) ∷ []) ≡ told (pos 16384)

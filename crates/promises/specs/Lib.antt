@@ -5,6 +5,7 @@ pub mod Demand2
 pub mod Demand3
 pub mod WriteLength
 pub mod ProcessData
+pub mod Dithering
 pub mod History
 pub mod Examples
 pub mod Determined

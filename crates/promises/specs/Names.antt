@@ -5,6 +5,7 @@ use mathlib.Core.Path.{_≡_}
 use Prim.Native.Nat.{ℕ, _+_, _-_, _*_, _<_}
 use Rattle.objects.specs.Places.{HOLD-SET-POINT, UPPER-LIMIT, LOWER-LIMIT, SCALING-FACTOR, SCALING-OFFSET, ZERO-CORRECTION, RAMP-TYPE}
 use Rattle.objects.specs.Places.{ACCELERATION, ACCELERATION-POSITIVE, ACCELERATION-NEGATIVE, DECELERATION, DECELERATION-POSITIVE, DECELERATION-NEGATIVE}
+use Rattle.objects.specs.Places.{DITHER-TYPE, DITHER-AMPLITUDE, DITHER-FREQUENCY}
 use Rattle.objects.specs.Places.{DEAD-BAND-TYPE, A-SIDE, B-SIDE, THRESHOLD, RECEIVE-MAP, TRANSMIT-MAP, SET-POINT, CONTROL-WORD, STATUS-WORD}
 use Rattle.objects.specs.Places.{ERROR-CODE, COMMAND, SETTINGS, WRITABLE, ROWS}
 use Rattle.objects.specs.Table.{rowAt}
@@ -63,24 +64,29 @@ pub record Names : Type 0 where
   pub a-side : indexAt A-SIDE ≡ 0x6343
   pub b-side : indexAt B-SIDE ≡ 0x6344
   pub threshold : indexAt THRESHOLD ≡ 0x6345
+  -- the dither, by wish 4 of document 02: type, amplitude, frequency
+  pub dither : map indexAt (DITHER-TYPE ∷ DITHER-AMPLITUDE ∷ DITHER-FREQUENCY ∷ []) ≡ 0x6360 ∷ 0x6361 ∷ 0x6362 ∷ []
   -- the maps: the number of entries and the four entries of each, by index and sub-index
   pub receive-map : map indexAndSub (fivePlaces RECEIVE-MAP) ≡ 0x160000 ∷ 0x160001 ∷ 0x160002 ∷ 0x160003 ∷ 0x160004 ∷ []
   pub transmit-map : map indexAndSub (fivePlaces TRANSMIT-MAP) ≡ 0x1A0000 ∷ 0x1A0001 ∷ 0x1A0002 ∷ 0x1A0003 ∷ 0x1A0004 ∷ []
   -- how many there are, how many can be written, and how many are stored
-  pub rows : ROWS ≡ 32
-  pub writable : WRITABLE ≡ 29
+  pub rows : ROWS ≡ 35
+  pub writable : WRITABLE ≡ 32
   pub settings : SETTINGS ≡ 17
   -- the sub-index of their values: 0 of a variable, 1 of a record
-  pub of-variables : map subAt (CONTROL-WORD ∷ STATUS-WORD ∷ ERROR-CODE ∷ SCALING-FACTOR ∷ RAMP-TYPE ∷ DEAD-BAND-TYPE ∷ []) ≡ 0 ∷ 0 ∷ 0 ∷ 0 ∷ 0 ∷ 0 ∷ []
+  pub of-variables :
+      map subAt (CONTROL-WORD ∷ STATUS-WORD ∷ ERROR-CODE ∷ SCALING-FACTOR ∷ RAMP-TYPE ∷ DEAD-BAND-TYPE ∷ DITHER-TYPE ∷ [])
+      ≡ 0 ∷ 0 ∷ 0 ∷ 0 ∷ 0 ∷ 0 ∷ 0 ∷ []
   pub of-records :
       map subAt
       (SET-POINT ∷ COMMAND ∷ HOLD-SET-POINT ∷ UPPER-LIMIT ∷ LOWER-LIMIT ∷ SCALING-OFFSET ∷ ZERO-CORRECTION ∷ ACCELERATION
-      ∷ ACCELERATION-POSITIVE ∷ ACCELERATION-NEGATIVE ∷ DECELERATION ∷ DECELERATION-POSITIVE ∷ DECELERATION-NEGATIVE ∷ A-SIDE ∷ B-SIDE ∷ THRESHOLD ∷ [])
-      ≡ 1 ∷ 1 ∷ 1 ∷ 1 ∷ 1 ∷ 1 ∷ 1 ∷ 1 ∷ 1 ∷ 1 ∷ 1 ∷ 1 ∷ 1 ∷ 1 ∷ 1 ∷ 1 ∷ []
+      ∷ ACCELERATION-POSITIVE ∷ ACCELERATION-NEGATIVE ∷ DECELERATION ∷ DECELERATION-POSITIVE ∷ DECELERATION-NEGATIVE ∷ A-SIDE ∷ B-SIDE ∷ THRESHOLD
+      ∷ DITHER-AMPLITUDE ∷ DITHER-FREQUENCY ∷ [])
+      ≡ 1 ∷ 1 ∷ 1 ∷ 1 ∷ 1 ∷ 1 ∷ 1 ∷ 1 ∷ 1 ∷ 1 ∷ 1 ∷ 1 ∷ 1 ∷ 1 ∷ 1 ∷ 1 ∷ 1 ∷ 1 ∷ []
   -- a fresh device has the fresh value of each row that can be written
   pub fresh : (place : ℕ) → place < WRITABLE → valueAt freshDevice place ≡ rowAt place .fresh
   -- their sizes: one byte for I8, four for U32, two for I16 and U16; of a map one for the number of entries and four for an entry
-  pub of-one-byte : map sizeAt (RAMP-TYPE ∷ DEAD-BAND-TYPE ∷ []) ≡ 1 ∷ 1 ∷ []
+  pub of-one-byte : map sizeAt (RAMP-TYPE ∷ DEAD-BAND-TYPE ∷ DITHER-TYPE ∷ []) ≡ 1 ∷ 1 ∷ 1 ∷ []
   pub of-a-map : map sizeAt (fivePlaces RECEIVE-MAP ++ fivePlaces TRANSMIT-MAP) ≡ 1 ∷ 4 ∷ 4 ∷ 4 ∷ 4 ∷ 1 ∷ 4 ∷ 4 ∷ 4 ∷ 4 ∷ []
   pub of-four-bytes :
       map sizeAt
@@ -89,8 +95,8 @@ pub record Names : Type 0 where
   pub of-two-bytes :
       map sizeAt
       (CONTROL-WORD ∷ STATUS-WORD ∷ ERROR-CODE ∷ SET-POINT ∷ COMMAND ∷ HOLD-SET-POINT ∷ UPPER-LIMIT ∷ LOWER-LIMIT ∷ SCALING-OFFSET
-      ∷ ZERO-CORRECTION ∷ A-SIDE ∷ B-SIDE ∷ THRESHOLD ∷ [])
-      ≡ 2 ∷ 2 ∷ 2 ∷ 2 ∷ 2 ∷ 2 ∷ 2 ∷ 2 ∷ 2 ∷ 2 ∷ 2 ∷ 2 ∷ 2 ∷ []
+      ∷ ZERO-CORRECTION ∷ A-SIDE ∷ B-SIDE ∷ THRESHOLD ∷ DITHER-AMPLITUDE ∷ DITHER-FREQUENCY ∷ [])
+      ≡ 2 ∷ 2 ∷ 2 ∷ 2 ∷ 2 ∷ 2 ∷ 2 ∷ 2 ∷ 2 ∷ 2 ∷ 2 ∷ 2 ∷ 2 ∷ 2 ∷ 2 ∷ []
   -- the tags 1 to 17
   pub tags :
       map indexOfTag (1 ∷ 2 ∷ 3 ∷ 4 ∷ 5 ∷ 6 ∷ 7 ∷ 8 ∷ 9 ∷ 10 ∷ 11 ∷ 12 ∷ 13 ∷ 14 ∷ 15 ∷ 16 ∷ 17 ∷ [])

@@ -3,6 +3,7 @@ use crate::Event;
 use crate::UNTOUCHED;
 use block::Block;
 use device::Device;
+use dither::Dither;
 use image::IMAGE_LENGTH;
 use mapping::ENTRIES;
 use mapping::Map;
@@ -138,14 +139,24 @@ fn has_same_maps(a: Maps, b: Maps) -> bool {
     is_same_map(our_receive, their_receive) && is_same_map(our_transmit, their_transmit)
 }
 
+fn is_same_dither(a: Dither, b: Dither) -> bool {
+    a.kind == b.kind
+        && a.amplitude == b.amplitude
+        && a.frequency == b.frequency
+        && a.phase == b.phase
+}
+
 pub fn is_same(a: Device, b: Device) -> bool {
     let our_block = a.block;
     let their_block = b.block;
     let our_maps = a.maps;
     let their_maps = b.maps;
+    let our_dither = a.dither;
+    let their_dither = b.dither;
     a.state == b.state
         && a.control == b.control
         && a.error == b.error
         && is_same_block(our_block, their_block)
         && has_same_maps(our_maps, their_maps)
+        && is_same_dither(our_dither, their_dither)
 }

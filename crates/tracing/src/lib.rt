@@ -145,12 +145,20 @@ fn put_query(text: &mut [u8], at: usize, reading: Reading) -> usize {
     put_value(text, at, reading.value)
 }
 
-// The end of a line: the device after the event. A device of the run is always sound, so that each query has a value.
+fn put_phase(text: &mut [u8], at: usize, device: Device) -> usize {
+    let dither = device.dither;
+    let at = put(text, at, b' ');
+    put_number(text, at, dither.phase as u64)
+}
+
+// The end of a line: the device after the event, and its phase, of which there is no query. A device of the run is always sound, so that
+// each query has a value.
 fn put_device(text: &mut [u8], at: usize, device: Device) -> usize {
     let at = put_all(text, at, b" |");
     let at = put_query(text, at, rainsheave::state(device));
     let at = put_query(text, at, rainsheave::status(device));
     let at = put_query(text, at, rainsheave::position(device));
+    let at = put_phase(text, at, device);
     put(text, at, b'\n')
 }
 

@@ -1,5 +1,6 @@
 // Devices that are not sound.
 use device::ACTIVE;
+use device::DISABLED;
 use device::Device;
 use device::FAULT;
 use device::HOLD;
@@ -37,6 +38,9 @@ const MOST: u8 = 255;
 const ONLY_SENT: u32 = 0x60410010;
 
 const ONLY_RECEIVED: u32 = 0x60400010;
+
+// The last phase of a period.
+const LAST_PHASE: u32 = 4294967295;
 
 fn with_state(device: Device, state: u8) -> Device {
     let mut other = device;
@@ -162,6 +166,33 @@ fn with_zero_counted(device: Device, word: u16) -> Device {
     with_entry(counting, word, 0)
 }
 
+// ---- the dither
+
+// A word picks the value: type, amplitude or frequency.
+fn with_dither_value(device: Device, word: u16, value: i64) -> Device {
+    let dither = device.dither;
+    device::with_dither(device, dither::with_at(dither, word as usize % 3, value))
+}
+
+// One more than the highest type, amplitude or frequency.
+fn dither_above(word: u16) -> i64 {
+    let which = word % 3;
+    match which {
+        0 => 3,
+        1 => 1025,
+        _ => 251,
+    }
+}
+
+// At rest in a state with its error code, but for the phase.
+fn with_phase_at_rest(device: Device, state: u8, error: u16, phase: u32) -> Device {
+    let rested = with_position(with_state(device, state), 0);
+    let dither = rested.dither;
+    let mut other = device::with_dither(rested, dither::at_phase(dither, phase));
+    other.error = error;
+    other
+}
+
 // ---- the ways
 
 // The device, made unsound in one of six ways.
@@ -176,8 +207,8 @@ pub fn altered(device: Device, way: u8, word: u16) -> Device {
     }
 }
 
-// The device, made unsound in one of thirteen further ways: one step beyond a range, at the ends of an i64, downward where `altered`
-// goes upward, and in a map.
+// The device, made unsound in one of nineteen further ways: one step beyond a range, at the ends of an i64, downward where `altered`
+// goes upward, in a map, and in the dither.
 pub fn broken(device: Device, way: u8, word: u16) -> Device {
     match way {
         0 => with_setting(device, word, above(word)),
@@ -192,6 +223,12 @@ pub fn broken(device: Device, way: u8, word: u16) -> Device {
         9 => with_count(device, word, MOST),
         10 => with_wrong_entry(device, word),
         11 => with_zero_counted(device, word),
+        12 => with_dither_value(device, word, dither_above(word)),
+        13 => with_dither_value(device, word, -1),
+        14 => with_dither_value(device, word, i64::MAX),
+        15 => with_dither_value(device, word, i64::MIN),
+        16 => with_phase_at_rest(device, DISABLED, 0, 1),
+        17 => with_phase_at_rest(device, FAULT, 1, LAST_PHASE),
         _ => with_state(device, LAST_STATE),
     }
 }

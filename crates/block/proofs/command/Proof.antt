@@ -1,33 +1,28 @@
--- Each number that is handed on is what the definition has there. Those of a sound block are in their ranges.
+-- The sum fits, and is what the definition clamps.
 use mathlib.Core.Path.{_∙_}
 use borrow.Author.Needs.{needs}
+use lib.IntN.{_+ℤ_}
+use mir.Syntax.{w64}
+use mir.Val.{SFits}
 use mir.Facts.{toZ-ofZ}
-use Rattle.block.specs.Command.{commandOf}
-use Rattle.block.proofs.Laws.{band, position-fits}
 use Rattle.integers.proofs.Machine.{told}
+use Rattle.integers.proofs.Range.{fits, plus}
+use Rattle.block.specs.Command.{bandedOf, commandOf}
+use Rattle.block.proofs.Laws.{banded-within}
 use Rattle.block.proofs.command.Statement.{statement}
 use Rattle.block.proofs.command.Tie as tie
+
+sum : (s : tie.Start) → SFits w64 (bandedOf (s .args .block) +ℤ s .args .dither)
+sum s = fits (plus (banded-within (s .pre .sound)) (s .pre .small)) tt tt
 
 pub command-spec : {M : Type 1} → statement M
 unfolding commandOf
 command-spec =
     tie.close
     (tie.spec
-    (λ c κs. search needs)
-    (λ c κs. search needs)
-    (λ c κs. search needs)
-    (λ c κs. search needs)
-    (λ c κs. search needs)
-    (λ c κs.
-    let four = c .before .before in
-    let three = four .before in
-    let two = three .before in
-    let s = two .before .before in
-    simp (told (two .setting2), told (three .setting3), told (four .setting4), told (c .whole-of), toZ-ofZ (position-fits (s .pre))) (band (s .pre)))
+    (λ c κs. c .pre .sound)
+    (λ c. simp (told (c .banded-of), toZ-ofZ (c .before .fits .dither)) (sum (c .before)))
     (λ c κs. search needs)
     (λ c.
-    let five = c .before .before in
-    let four = five .before .before in
-    let three = four .before in
-    let two = three .before in
-    told (c .clamp-to-stroke) ∙ simp (told (c .before .banded-by), told (two .before .setting), told (two .setting2), told (three .setting3), told (four .setting4), told (five .whole-of), toZ-ofZ (position-fits (two .before .before .pre)))))
+    let s = c .before .before in
+    told (c .clamp-to-stroke) ∙ simp (told (c .before .banded-of), toZ-ofZ (s .fits .dither), toZ-ofZ (sum s))))

@@ -1,4 +1,4 @@
--- The block and the error code are those of the state that is entered.
+-- The block, the dither and the error code are those of the state that is entered.
 use borrow.Author.Needs.{needs}
 use Rattle.device.specs.Events.{entering}
 use Rattle.device.proofs.entering.Statement.{statement}
@@ -11,4 +11,5 @@ entering-spec =
     (tie.spec
     (λ c κs. search needs)
     (λ c κs. search needs)
-    (λ c. rw (c .error-in .ensures, c .before .block-in .ensures)))
+    (λ c κs. search needs)
+    (λ c. rw (c .error-in .ensures, c .before .dither-in .ensures, c .before .before .before .block-in .ensures)))

@@ -1,11 +1,11 @@
--- The code and the definition make the same two tests.
-use mathlib.Core.Path.{_≡_, _∙_}
+-- The code and the definition make the same three tests.
+use mathlib.Core.Path.{_∙_}
 use borrow.Author.Needs.{needs}
+use borrow.Author.Tests.{ne-eqb}
 use lib.IntN.{pos}
 use mir.Syntax.{w64}
 use mir.Val.{SFits}
-use mir.Facts.{sfits-lit}
-use Rattle.integers.proofs.Machine.{same-told}
+use Rattle.integers.proofs.Machine.{eq-literal, ne-literal}
 use Rattle.device.specs.Sound.{rests}
 use Rattle.device.proofs.rests.Statement.{statement}
 use Rattle.device.proofs.rests.Tie as tie
@@ -18,5 +18,11 @@ rests-spec =
     (λ c κs. search needs)
     (λ c. c .if1 .taken ∙ rw (← c .before .driven .ensures, c .if1 .taken))
     (λ c.
-    let f : SFits w64 (c .before .before .before .before .before .args .device .block .position) = search needs in
-    rw (← c .before .before .before .driven .ensures, c .before .before .if1 .left) (same-told f (sfits-lit {z = pos 0} tt))))
+    let t = c .before in
+    let e = t .before .before .before in
+    let f : SFits w64 (e .before .before .before .before .args .device .block .position) = search needs in
+    rw (← e .before .driven .ensures, e .if1 .left, eq-literal (pos 0) tt f (t .if2 .taken)))
+    (λ c.
+    let e = c .before .before .before in
+    let f : SFits w64 (e .before .before .before .before .args .device .block .position) = search needs in
+    rw (← e .before .driven .ensures, e .if1 .left, ne-literal (pos 0) tt f (c .if2 .left)) (ne-eqb _ _ (c .if2 .left))))

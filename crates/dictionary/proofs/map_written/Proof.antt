@@ -5,7 +5,7 @@ use borrow.Author.Tests.{lt-ltb, le-ltb}
 use mir.Facts.{toZ-ofZ}
 use Rattle.dictionary.specs.Values.{writtenTo}
 use Rattle.objects.proofs.Rules.{receive-map, transmit-map}
-use Rattle.dictionary.proofs.Maps.{OfReceive, OfTransmit, sub-most, sub-number, one-byte, map-number}
+use Rattle.dictionary.proofs.Maps.{OfReceive, OfTransmit, past-settings, sub-most, sub-number, one-byte, map-number}
 use Rattle.dictionary.proofs.map_written.Statement.{statement}
 use Rattle.dictionary.proofs.map_written.Tie as tie
 
@@ -34,9 +34,9 @@ map-written-spec =
     let w = c .before .before in
     let t = w .before .before in
     let s = t .before .before in
-    c .with-maps .ensures ∙ simp (c .before .with-receive .ensures, w .with-at .ensures, toZ-ofZ (s .fits .value), le-ltb _ _ (s .pre .of-map .from), lt-ltb _ _ (t .if1 .taken)))
+    c .with-maps .ensures ∙ simp (c .before .with-receive .ensures, w .with-at .ensures, toZ-ofZ (s .fits .value), past-settings (s .pre .of-map .from), le-ltb _ _ (s .pre .of-map .from), lt-ltb _ _ (t .if1 .taken)))
     (λ c.
     let w = c .before .before in
     let t = w .before .before in
     let s = t .before .before in
-    c .with-maps2 .ensures ∙ simp (c .before .with-transmit .ensures, w .with-at2 .ensures, toZ-ofZ (s .fits .value), le-ltb _ _ (s .pre .of-map .from), le-ltb _ _ (t .if1 .left), lt-ltb _ _ (s .pre .of-map .below))))
+    c .with-maps2 .ensures ∙ simp (c .before .with-transmit .ensures, w .with-at2 .ensures, toZ-ofZ (s .fits .value), past-settings (s .pre .of-map .from), le-ltb _ _ (s .pre .of-map .from), le-ltb _ _ (t .if1 .left), lt-ltb _ _ (s .pre .of-map .below))))

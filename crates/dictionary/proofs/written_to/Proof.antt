@@ -10,6 +10,7 @@ use lib.Dec.{ltb}
 use Rattle.objects.specs.Places.{TRANSMIT-MAP, SET-POINT}
 use Rattle.dictionary.specs.Values.{writtenTo}
 use Rattle.dictionary.proofs.Laws.{control-word}
+use Rattle.dictionary.proofs.Maps.{past-settings}
 use Rattle.dictionary.proofs.written_to.Statement.{statement}
 use Rattle.dictionary.proofs.written_to.Tie as tie
 
@@ -26,20 +27,27 @@ written-to-spec =
     (λ c.
     let t = c .before .before in
     c .with-block .ensures ∙ simp (c .before .with-setting .ensures, toZ-ofZ (t .before .before .fits .value), lt-ltb _ _ (t .if1 .taken)))
+    (λ c κs. search needs)
+    (λ c κs. search needs)
+    (λ c.
+    let t = c .before .before .before in
+    let e = t .before in
+    c .with-dither .ensures ∙ simp (c .before .with-at .ensures, toZ-ofZ (e .before .before .fits .value), le-ltb _ _ (e .if1 .left), lt-ltb _ _ (t .if2 .taken)))
     (λ c κs.
-    let s = c .before .before .before in
-    rw (toZ-ofZ (s .fits .value)) (record { of-map = record { from = c .before .if1 .left; below = c .if2 .taken }; range = s .pre .range }))
-    (λ c. c .map-written .ensures ∙ simp (toZ-ofZ (c .before .before .before .before .fits .value)))
+    let s = c .before .before .before .before in
+    rw (toZ-ofZ (s .fits .value)) (record { of-map = record { from = c .before .if2 .left; below = c .if3 .taken }; range = s .pre .range }))
+    (λ c. c .map-written .ensures ∙ simp (toZ-ofZ (c .before .before .before .before .before .fits .value)))
     (λ c κs. search needs)
     (λ c κs. search needs)
-    (λ c. let s = c .before .before .before .before in simp (toZ-ofZ (s .fits .value)) (control-word (c .match .keys2) (s .pre .range)))
+    (λ c. let s = c .before .before .before .before .before in simp (toZ-ofZ (s .fits .value)) (control-word (c .match .keys2) (s .pre .range)))
     (λ c κs. search needs)
     (λ c.
     let m = c .before .before in
-    c .with-block2 .ensures ∙ simp (c .before .with-setpoint .ensures, toZ-ofZ (m .before .before .before .before .fits .value), m .match .keys1))
+    c .with-block2 .ensures ∙ simp (c .before .with-setpoint .ensures, toZ-ofZ (m .before .before .before .before .before .fits .value), m .match .keys1))
     (λ c.
     let m = c .before in
-    c .control .ensures ∙ simp (toZ-ofZ (m .before .before .before .before .fits .value), m .match .keys2))
+    c .control .ensures ∙ simp (toZ-ofZ (m .before .before .before .before .before .fits .value), m .match .keys2))
     (λ c.
     let none = c .match .rest in
-    simp (le-ltb _ _ (c .before .before .if1 .left), past-transmit (c .before .if2 .left), le-ltb _ _ (c .before .if2 .left), ne-eqb _ _ (none .0 .1), ne-eqb _ _ (none .1))))
+    let maps = c .before in
+    simp (past-settings (maps .before .if2 .left), le-ltb _ _ (maps .before .if2 .left), past-transmit (maps .if3 .left), le-ltb _ _ (maps .if3 .left), ne-eqb _ _ (none .0 .1), ne-eqb _ _ (none .1))))

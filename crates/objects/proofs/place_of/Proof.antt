@@ -2,6 +2,7 @@
 use mathlib.Core.Path.{refl, sym, _∙_}
 use native.Mathlib.Omega.{arith}
 use Rattle.integers.specs.Words.{each}
+use Rattle.objects.specs.Places.{CONTROL-WORD, UPPER-LIMIT, RAMP-TYPE, DEAD-BAND-TYPE, DITHER-TYPE}
 use Rattle.objects.specs.Table.{objects}
 use Rattle.objects.specs.Lookup.{placeFrom, placeOf}
 use Rattle.objects.proofs.Rules.{run-is-found, no-other-index}
@@ -17,18 +18,21 @@ place-of-spec =
     (λ c κs. omega arith)
     (λ c κs. omega arith)
     (λ c κs. omega arith)
+    (λ c κs. omega arith)
     (λ c. unfold placeOf placeFrom in rw (c .match .keys1))
     (λ c. unfold placeOf placeFrom in rw (c .match .keys2))
     (λ c. unfold placeOf placeFrom in rw (c .match .keys3))
     (λ c. unfold placeOf placeFrom in rw (c .match .keys4))
     (λ c. unfold placeOf placeFrom in rw (c .match .keys5))
     (λ c. unfold placeOf placeFrom in rw (c .match .keys6))
-    (λ c. c .in-run .ensures ∙ sym (run-is-found 28 0x6040 2 (unfold each placeOf placeFrom in refl) _ (omega arith) (omega arith)))
-    (λ c. c .in-run2 .ensures ∙ sym (run-is-found 1 0x6320 5 (unfold each placeOf placeFrom in refl) _ (omega arith) (omega arith)))
-    (λ c. c .in-run3 .ensures ∙ sym (run-is-found 6 0x6330 7 (unfold each placeOf placeFrom in refl) _ (omega arith) (omega arith)))
-    (λ c. c .in-run4 .ensures ∙ sym (run-is-found 13 0x6342 4 (unfold each placeOf placeFrom in refl) _ (omega arith) (omega arith)))
-    (λ c. sym (no-other-index _ (omega arith)))
-    (λ c. sym (no-other-index _ (omega arith)))
-    (λ c. sym (no-other-index _ (omega arith)))
-    (λ c. sym (no-other-index _ (omega arith)))
-    (λ c. sym (no-other-index _ (omega arith))))
+    (λ c. c .in-run .ensures ∙ sym (run-is-found CONTROL-WORD 0x6040 2 (unfold each placeOf placeFrom in refl) _ (omega arith) (omega arith)))
+    (λ c. c .in-run2 .ensures ∙ sym (run-is-found UPPER-LIMIT 0x6320 5 (unfold each placeOf placeFrom in refl) _ (omega arith) (omega arith)))
+    (λ c. c .in-run3 .ensures ∙ sym (run-is-found RAMP-TYPE 0x6330 7 (unfold each placeOf placeFrom in refl) _ (omega arith) (omega arith)))
+    (λ c. c .in-run4 .ensures ∙ sym (run-is-found DEAD-BAND-TYPE 0x6342 4 (unfold each placeOf placeFrom in refl) _ (omega arith) (omega arith)))
+    (λ c. c .in-run5 .ensures ∙ sym (run-is-found DITHER-TYPE 0x6360 3 (unfold each placeOf placeFrom in refl) _ (omega arith) (omega arith)))
+    (λ c. sym (no-other-index _ (omega arith) (omega arith)))
+    (λ c. sym (no-other-index _ (omega arith) (omega arith)))
+    (λ c. sym (no-other-index _ (omega arith) (omega arith)))
+    (λ c. sym (no-other-index _ (omega arith) (omega arith)))
+    (λ c. sym (no-other-index _ (omega arith) (omega arith)))
+    (λ c. sym (no-other-index _ (omega arith) (omega arith))))
