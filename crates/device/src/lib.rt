@@ -115,8 +115,8 @@ fn driven(state: u8) -> bool
 
 // ---- soundness
 
-// One of the four states, of which FAULT is the last, with an error code exactly in FAULT: one test for both, which costs
-// less than two.
+// One of the four states, of which FAULT is the last, with an error code exactly in FAULT: without a code a state below FAULT, with
+// one FAULT itself.
 fn state_fits(state: u8, error: u16) -> bool
     ensures { λ r. ⌜ r ≡ (isState state && errorFits state error) ⌝ }
 {
