@@ -1,10 +1,10 @@
--- Where the numbers of the value chain lie, and on what the target depends.
+-- Where the numbers of the value chain lie, scaling on both signs, and on what the target depends.
 use mathlib.Core.Bool.{Bool, false}
-use mathlib.Core.Path.{_≡_}
-use Prim.Native.Nat.{ℕ, _<_}
+use mathlib.Core.Path.{_≡_, refl, sym}
+use Prim.Native.Nat.{ℕ, zero, suc, _<_}
 use native.Mathlib.Omega.{arith}
-use lib.IntN.{ℤ, pos, negℤ, _+ℤ_, _-ℤ_}
-use lib.Signed.{ltZ, _≤ℤ_, leZ-yes}
+use lib.IntN.{ℤ, pos, negsuc, negℤ, _+ℤ_, _-ℤ_, _*ℤ_, zero-*ℤ, negℤ-negℤ}
+use lib.Signed.{ltZ, quotZ, _≤ℤ_, leZ-yes}
 use mir.Syntax.{w64}
 use mir.Val.{SFits, toZ, ofZ}
 use mir.Facts.{toZ-ofZ}
@@ -48,6 +48,23 @@ stroke-within x = clamp-within x (leZ-yes tt)
 pub scaled-within : {factor x : ℤ} → Scaling factor x → Within (minus 2147483648) (pos 2147483648) (scaledBy factor x)
 unfolding scaledBy objects
 scaled-within s = wider (over PARTS (times (s .value) (s .factor))) tt tt
+
+-- the scaled value of minus x is minus that of x, since the product is, and the quotient toward zero of that
+pub scaled-negated : (factor x : ℤ) → scaledBy factor (negℤ x) ≡ negℤ (scaledBy factor x)
+unfolding scaledBy
+scaled-negated factor x = rw (product x factor) (quotient (x *ℤ factor))
+  where
+    product : (a b : ℤ) → negℤ a *ℤ b ≡ negℤ (a *ℤ b)
+    product (pos zero) b = rw zero-*ℤ
+    product (pos (suc a)) (pos b) = refl
+    product (pos (suc a)) (negsuc b) = sym (negℤ-negℤ _)
+    product (negsuc a) (pos b) = sym (negℤ-negℤ _)
+    product (negsuc a) (negsuc b) = refl
+
+    quotient : (z : ℤ) → quotZ (negℤ z) (pos PARTS) ≡ negℤ (quotZ z (pos PARTS))
+    quotient (pos zero) = refl
+    quotient (pos (suc n)) = refl
+    quotient (negsuc n) = sym (negℤ-negℤ _)
 
 -- what holds of r, of r with either side, and of 0 holds of r behind a dead band
 banded-one : (P : ℤ → Type 0) (kind a-side b-side threshold r : ℤ) → P r → P (r +ℤ a-side) → P (r -ℤ b-side) → P (pos 0) → P (bandedBy kind a-side b-side threshold r)

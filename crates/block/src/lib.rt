@@ -108,12 +108,19 @@ fn clamp_to_stroke(x: i64) -> i64
     clamp_to(-FULL_STROKE, FULL_STROKE, x)
 }
 
-// Division drops the fraction on both signs.
+// The scaling factor that is one.
+const ONE: u64 = PARTS as u64;
+
+// The magnitude is scaled and the sign put back at the end, so that both signs read alike: the fraction is dropped on both.
+// Nothing can overflow: x lies at most 2^15 from zero and the factor is below 2^32, so that the product is below 2^47 and the scaled magnitude below 2^31.
 fn scaled_by(factor: i64, x: i64) -> i64
     requires { ⌜ Scaling factor x ⌝ }
     ensures { λ r. ⌜ r ≡ scaledBy factor x ⌝ }
 {
-    x * factor / PARTS
+    let magnitude = if x < 0 { -x } else { x };
+    let product = magnitude as u64 * factor as u64;
+    let scaled = (product / ONE) as i64;
+    if x < 0 { -scaled } else { scaled }
 }
 
 fn target_from(lower: i64, upper: i64, factor: i64, offset: i64, zero: i64, input: i64) -> i64
