@@ -49,7 +49,7 @@ pub scaled-within : {factor x : ℤ} → Scaling factor x → Within (minus 2147
 unfolding scaledBy objects
 scaled-within s = wider (over PARTS (times (s .value) (s .factor))) tt tt
 
--- the scaled value of minus x is minus that of x, since the product is, and the quotient toward zero of that
+-- the scaled value of minus x is minus that of x: the product changes its sign, and with it the quotient toward zero
 pub scaled-negated : (factor x : ℤ) → scaledBy factor (negℤ x) ≡ negℤ (scaledBy factor x)
 unfolding scaledBy
 scaled-negated factor x = rw (product x factor) (quotient (x *ℤ factor))

@@ -20,7 +20,7 @@ use Rattle.block.proofs.Laws.{scaled-within, scaled-negated}
 use Rattle.block.proofs.scaled_by.Statement.{statement}
 use Rattle.block.proofs.scaled_by.Tie as tie
 
--- with a factor that is not below zero
+-- a magnitude scaled, with a factor that is not below zero
 scaled-magnitude : (factor : ℤ) (m : ℕ) → pos 0 ≤ℤ factor → scaledBy factor (pos m) ≡ pos (m * natAbs factor / PARTS)
 unfolding scaledBy
 scaled-magnitude (pos f) m h = refl
@@ -83,8 +83,8 @@ below-zero c =
     let e : negℤ (pos (magnitude s)) ≡ s .args .x = omega (arith, ints, neg-nat (pos (magnitude s)), abs-nat (s .args .x)) in
     simp (quotient-told (c .before), +ℤ-idl, ← scaled-negated, e)
 
-above-zero : (c : tie.Else2) → toZ w64 (quotient (c .before)) ≡ scaled (c .before .before)
-above-zero c =
+from-zero : (c : tie.Else2) → toZ w64 (quotient (c .before)) ≡ scaled (c .before .before)
+from-zero c =
     let s = c .before .before in
     let above = simp (toZ-ofZ (s .fits .x)) at (c .if2 .left) in
     let e : pos (magnitude s) ≡ s .args .x = omega (arith, ints, abs-nat (s .args .x)) in
@@ -101,4 +101,4 @@ scaled-by-spec =
     (λ c. omega (arith, ints, product-told c, most (c .before)))
     (λ c. rw (below-zero c) (result (c .before .before)))
     (λ c. rw (below-zero c) (toZ-ofZ (result (c .before .before))))
-    above-zero)
+    from-zero)
