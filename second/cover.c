@@ -1,4 +1,4 @@
-/* `second cover`: what of document 01 and wishes 1 to 4 of document 02 an event file has
+/* `second cover`: what of document 01 and wishes 1 to 6 of document 02 an event file has
  * reached. */
 #include <inttypes.h>
 #include <stdarg.h>
@@ -19,6 +19,17 @@ static const enum abort_code abort_codes[] = {
 enum { ABORT_CODES = sizeof abort_codes / sizeof abort_codes[0] };
 
 const char *const state_names[STATES] = {"DISABLED", "HOLD", "ACTIVE", "FAULT"};
+const char *const block_names[BLOCKS] = {"position", "pressure"};
+const char *const block_prefixes[BLOCKS] = {"", "pressure-"};
+const char *const teller_names[TELLERS] = {"query", "read", "send"};
+const char *const access_names[ACCESSES] = {"read", "written"};
+
+const struct keeper keepers[KEEPERS] = {
+    {EVENT_SDO, "sdo"},     {EVENT_CONTROL, "control"}, {EVENT_FAULT, "fault"},
+    {EVENT_TICK, "tick"},   {EVENT_JUMP, "jump"},       {EVENT_STORE, "store"},
+    {EVENT_LOAD, "load"},   {EVENT_TICKS, "ticks"},     {EVENT_RECEIVE, "receive"},
+    {EVENT_SEND, "send"},
+};
 
 enum { DEAD_BAND_TYPES = 2 };
 enum band { BAND_POSITIVE, BAND_NEGATIVE, BAND_INSIDE, BANDS };
@@ -41,9 +52,9 @@ static struct {
     uint64_t move[STATES][STATES]; /* by a control word; equal states: no move */
     uint64_t fault[STATES];
     uint64_t held_reset;
-    uint64_t band[DEAD_BAND_TYPES][BANDS];
-    uint64_t write[OBJECTS];
-    uint64_t read[OBJECTS][SUBS];
+    uint64_t band[BLOCKS][DEAD_BAND_TYPES][BANDS];
+    uint64_t write[BLOCKS][OBJECTS]; /* what is of no block stands with the position block */
+    uint64_t read[BLOCKS][OBJECTS][SUBS];
     uint64_t example[EXAMPLES];
 } counts;
 
@@ -79,15 +90,25 @@ static void count_control(const struct seen *seen, uint16_t word)
     follow_reset_edge(seen, word);
 }
 
+const struct block *selected_of(const struct device *device)
+{
+    return &device->block[device->selected];
+}
+
+bool is_idle(const struct device *device)
+{
+    return device->state == DISABLED || device->state == FAULT;
+}
+
 /* The command that was told without dither: it is 0 exactly within the band. */
 static void count_command(const struct device *device, int64_t command)
 {
-    const int64_t *setting = device->setting;
-    int64_t r = device->position / PER_IR;
-    if (device->state == DISABLED || device->state == FAULT || device->dither[DITHER_TYPE] != 0)
+    const int64_t *setting = selected_of(device)->setting;
+    int64_t r = selected_of(device)->position / PER_IR;
+    if (is_idle(device) || device->dither[DITHER_TYPE] != 0)
         return;
     enum band band = command > 0 ? BAND_POSITIVE : command < 0 ? BAND_NEGATIVE : BAND_INSIDE;
-    counts.band[setting[DEAD_BAND_TYPE]][band]++;
+    counts.band[device->selected][setting[DEAD_BAND_TYPE]][band]++;
     if (setting[DEAD_BAND_TYPE] != 1 || setting[DEAD_BAND_THRESHOLD] != 20 ||
         setting[DEAD_BAND_A_SIDE] != 300 || setting[DEAD_BAND_B_SIDE] != 200)
         return;
@@ -97,9 +118,15 @@ static void count_command(const struct device *device, int64_t command)
 
 /* ---- SDO ---- */
 
-static uint16_t word_at(const uint8_t *bytes)
+uint16_t word_at(const uint8_t *bytes)
 {
     return (uint16_t)(bytes[0] | bytes[1] << 8);
+}
+
+int64_t signed_word_at(const uint8_t *bytes)
+{
+    int64_t word = word_at(bytes);
+    return word > INT16_MAX ? word - 65536 : word;
 }
 
 uint32_t number_at(const uint8_t *bytes)
@@ -130,25 +157,28 @@ struct request request_of(const struct seen *seen)
     };
 }
 
-static void count_abort(const struct seen *seen, const struct object *object)
+enum access access_of(const struct request *request)
+{
+    return request->size == 0 ? READ_ACCESS : WRITE_ACCESS;
+}
+
+static void count_abort(const struct seen *seen, struct found found)
 {
     uint32_t code = request_of(seen).code;
     for (size_t i = 0; i < ABORT_CODES; i++)
         if ((uint32_t)abort_codes[i] == code)
             counts.abort[i]++;
-    if (object != NULL)
-        count_length_abort(seen, object, code);
+    if (found.object != NULL)
+        count_length_abort(seen, found, code);
 }
 
-static void count_read(const struct seen *seen, const struct object *object)
+static void count_read(const struct seen *seen, struct found found)
 {
     const uint8_t *reply = seen->outcome->bytes;
     uint8_t sub = reply[3];
-    counts.read[object - objects][sub]++;
-    if (object->value == COMMAND && sub == 1) {
-        int64_t value = word_at(&reply[4]);
-        count_command(seen->before, value > INT16_MAX ? value - 65536 : value);
-    }
+    counts.read[found.block][found.object - objects][sub]++;
+    if (found.object->value == COMMAND && found.block == seen->before->selected && sub == 1)
+        count_command(seen->before, signed_word_at(&reply[4]));
 }
 
 static void count_exchanges(const struct seen *seen)
@@ -171,18 +201,20 @@ static void count_sdo(const struct seen *seen)
     const uint8_t *reply = seen->outcome->bytes;
     if (seen->outcome->number != DONE)
         return;
-    const struct object *object = object_find(word_at(&reply[1]));
+    struct found found = object_find(word_at(&reply[1]));
     if (reply[0] == ABORT) {
-        count_abort(seen, object);
+        count_abort(seen, found);
     } else if (reply[0] == WRITTEN) {
-        counts.write[object - objects]++;
-        if (object->value == CONTROL_WORD)
+        counts.write[found.block][found.object - objects]++;
+        if (found.object->value == CONTROL_WORD)
             count_control(seen, word_at(&seen->record->bytes[4]));
     } else {
-        count_read(seen, object);
+        count_read(seen, found);
     }
     count_map_request(seen);
     count_dither_request(seen);
+    count_block_request(seen);
+    count_selection_request(seen);
     count_exchanges(seen);
 }
 
@@ -200,6 +232,7 @@ static void count_event(const struct seen *seen)
     count_pdo_event(seen);
     count_ramp_event(seen);
     count_dither_event(seen);
+    count_blocks_event(seen); /* behind the dither, which its commands have */
     count_refusals(seen);
     switch (record->kind) {
     case EVENT_FRESH:
@@ -274,20 +307,27 @@ static void list_transitions(void)
 
 static void list_bands(void)
 {
-    for (size_t type = 0; type < DEAD_BAND_TYPES; type++)
-        for (size_t band = 0; band < BANDS; band++)
-            list_item(counts.band[type][band], "dead-band-%d-%s", (int)type, band_names[band]);
+    for (size_t block = 0; block < BLOCKS; block++)
+        for (size_t type = 0; type < DEAD_BAND_TYPES; type++)
+            for (size_t band = 0; band < BANDS; band++)
+                list_item(counts.band[block][type][band], "%sdead-band-%d-%s",
+                          block_prefixes[block], (int)type, band_names[band]);
 }
 
 static void list_entries(void)
 {
-    for (size_t row = 0; row < OBJECTS; row++)
-        if (objects[row].access == READ_WRITE)
-            list_item(counts.write[row], "write-%04X", (unsigned)objects[row].index);
-    for (size_t row = 0; row < OBJECTS; row++)
-        for (size_t sub = 0; sub <= object_top_sub(&objects[row]); sub++)
-            list_item(counts.read[row][sub], "read-%04X-sub-%d", (unsigned)objects[row].index,
-                      (int)sub);
+    for (size_t i = 0; i < ALL_OBJECTS; i++) {
+        struct found found = object_at(i);
+        if (found.object->access == READ_WRITE)
+            list_item(counts.write[found.block][found.object - objects], "write-%04X",
+                      (unsigned)object_index(found));
+    }
+    for (size_t i = 0; i < ALL_OBJECTS; i++) {
+        struct found found = object_at(i);
+        const uint64_t *by_sub = counts.read[found.block][found.object - objects];
+        for (size_t sub = 0; sub <= object_top_sub(found.object); sub++)
+            list_item(by_sub[sub], "read-%04X-sub-%d", (unsigned)object_index(found), (int)sub);
+    }
 }
 
 static void list_all(void)
@@ -302,6 +342,9 @@ static void list_all(void)
     list_pdo_items();
     list_dither_items();
     list_dither_object_items();
+    list_block_object_items();
+    list_selection_items();
+    list_blocks_items();
     for (size_t i = 0; i < EXAMPLES; i++)
         list_item(counts.example[i], "example-%s", example_names[i]);
     list_image_items();

@@ -11,11 +11,6 @@ static const char *const type_names[TYPES] = {"off", "square", "triangle"};
 
 static const uint64_t phase_range = UINT64_C(1) << 32;
 
-static bool is_idle(const struct device *device)
-{
-    return device->state == DISABLED || device->state == FAULT;
-}
-
 /* ---- The phase as it should be ---- */
 
 /* From where it was when it was last 0 or the frequency last changed, and the ticks since. */
@@ -146,8 +141,8 @@ struct path {
 
 static struct path path_of(const struct device *device, const struct wave *wave)
 {
-    const int64_t *setting = device->setting;
-    int64_t r = toward_zero(device->position, PER_IR);
+    const int64_t *setting = selected_of(device)->setting;
+    int64_t r = toward_zero(selected_of(device)->position, PER_IR);
     struct path path = {.r = r, .threshold = -1, .banded = r};
     if (setting[DEAD_BAND_TYPE] == 1) {
         path.threshold = setting[DEAD_BAND_THRESHOLD];
@@ -170,14 +165,11 @@ static const char *const corner_names[QUARTERS] = {"0", "quarter", "half", "thre
 static const int64_t amplitudes[] = {0, 1, 2, 1023, 1024};
 enum { AMPLITUDES = sizeof amplitudes / sizeof amplitudes[0], HALVES = 2 };
 
-enum teller { BY_QUERY, BY_READ, BY_SEND, TELLERS };
-static const char *const teller_names[TELLERS] = {"query", "read", "send"};
-
 static struct {
     uint64_t corner[QUARTERS][NEARS];
     uint64_t inside[QUARTERS];
     uint64_t amplitude[AMPLITUDES][HALVES];
-    uint64_t told[STATES][TELLERS];
+    uint64_t told[BLOCKS][STATES][TELLERS];
     uint64_t next_x[QUARTERS];    /* the first x after the corner */
     uint64_t fraction[QUARTERS];  /* of x: rounded it would make another triangle */
     uint64_t remainder[QUARTERS]; /* of the triangle's division */
@@ -214,7 +206,7 @@ static void count_rounding(const struct wave *wave)
     wave_counts[TRIANGLE].downward += wave->product < 0 && wave->value == 0;
 }
 
-static void count_wave(const struct wave *wave, uint8_t state, enum teller teller)
+static void count_wave(const struct wave *wave, const struct device *device, enum teller teller)
 {
     if (wave->type == 0) {
         off_count += wave->amplitude > 0 && wave->phase > 0;
@@ -226,7 +218,7 @@ static void count_wave(const struct wave *wave, uint8_t state, enum teller telle
     if (wave->amplitude == 0)
         return;
     wave_counts[wave->type].inside[quarter_of(wave)] += wave->x % QUARTER != 0;
-    wave_counts[wave->type].told[state][teller] += wave->value != 0;
+    wave_counts[wave->type].told[device->selected][device->state][teller] += wave->value != 0;
     count_corners(wave);
     if (wave->type == TRIANGLE)
         count_rounding(wave);
@@ -275,7 +267,7 @@ static const char *const path_names[PATH_ITEMS] = {
     "back-from-above-full-stroke",
     "back-from-below-minus-full-stroke",
 };
-static uint64_t path_counts[TYPES][PATH_ITEMS];
+static uint64_t path_counts[BLOCKS][TYPES][PATH_ITEMS];
 static uint64_t triangle_in_band_0; /* the triangle at 0 within the dead band */
 
 /* "Sum" is here r and the dither, as if that were added before the dead band. */
@@ -324,10 +316,10 @@ static void count_told(const struct seen *seen, enum teller teller, int64_t told
     }
     if (told != within_stroke(path.sum))
         return;
-    count_wave(&wave, device->state, teller);
+    count_wave(&wave, device, teller);
     if (wave.value != 0) {
-        count_band(&path, &wave, path_counts[wave.type]);
-        count_clamp(&path, &wave, path_counts[wave.type]);
+        count_band(&path, &wave, path_counts[device->selected][wave.type]);
+        count_clamp(&path, &wave, path_counts[device->selected][wave.type]);
     } else if (wave.type == TRIANGLE && wave.amplitude > 0 && wave.phase > 0) {
         triangle_in_band_0 += path.threshold >= 0 && path.r != 0 && path.banded == 0;
     }
@@ -335,27 +327,24 @@ static void count_told(const struct seen *seen, enum teller teller, int64_t told
 
 /* ---- What told it ---- */
 
-static int64_t signed_word(const uint8_t *bytes)
-{
-    int64_t word = bytes[0] | bytes[1] << 8;
-    return word > INT16_MAX ? word - 65536 : word;
-}
-
+/* Of the selected block: 6310h, or 6390h. */
 static void count_read_command(const struct seen *seen)
 {
     const uint8_t *reply = seen->outcome->bytes;
-    const uint8_t wanted[] = {READ_2, 0x10, 0x63, 1};
+    bool pressure = seen->before->selected == PRESSURE_BLOCK;
+    const uint8_t wanted[] = {READ_2, pressure ? 0x90 : 0x10, 0x63, 1};
     if (memcmp(reply, wanted, sizeof wanted) == 0)
-        count_told(seen, BY_READ, signed_word(&reply[4]));
+        count_told(seen, BY_READ, signed_word_at(&reply[4]));
 }
 
+/* That of the pressure block is never sent. */
 static void count_sent_command(const struct seen *seen)
 {
     const uint32_t command_entry = 0x63100110;
     const struct map *map = &seen->before->map[TRANSMIT_MAP];
     for (size_t i = 0; i < map->count; i++)
-        if (map->entry[i] == command_entry)
-            count_told(seen, BY_SEND, signed_word(&seen->outcome->bytes[2 * i]));
+        if (map->entry[i] == command_entry && seen->before->selected == POSITION_BLOCK)
+            count_told(seen, BY_SEND, signed_word_at(&seen->outcome->bytes[2 * i]));
 }
 
 /* What a query told of a device whose dither is not 0, and of the same device without any. */
@@ -382,6 +371,12 @@ static void count_untouched(const struct seen *seen)
     untouched_counts[AT_TARGET_TOLD] += at_target;
     untouched_counts[NOT_AT_TARGET_TOLD] += !at_target;
     untouched_counts[TICKS_TOLD] += told[QUERY_TICKS_TO_GO].value > 1;
+}
+
+int64_t command_wanted(const struct device *device)
+{
+    struct wave wave = wave_of(device);
+    return is_idle(device) ? 0 : within_stroke(path_of(device, &wave).sum);
 }
 
 void count_dither_event(const struct seen *seen)
@@ -430,14 +425,22 @@ static void list_wave(size_t type)
     for (size_t i = 0; i < QUARTERS; i++)
         list_item(wave_counts[type].inside[i], "dither-%s-in-quarter-%d", name, (int)i + 1);
     list_amplitudes(type);
-    for (size_t teller = 0; teller < TELLERS; teller++) {
-        list_item(wave_counts[type].told[HOLD][teller], "dither-%s-told-by-%s-in-HOLD", name,
-                  teller_names[teller]);
-        list_item(wave_counts[type].told[ACTIVE][teller], "dither-%s-told-by-%s-in-ACTIVE", name,
-                  teller_names[teller]);
+}
+
+/* The command with the wave, whichever block drives it. */
+static void list_told(size_t block, size_t type)
+{
+    const char *prefix = block_prefixes[block];
+    const char *name = type_names[type];
+    size_t tellers = block == PRESSURE_BLOCK ? BY_SEND : TELLERS;
+    for (size_t teller = 0; teller < tellers; teller++) {
+        list_item(wave_counts[type].told[block][HOLD][teller], "%sdither-%s-told-by-%s-in-HOLD",
+                  prefix, name, teller_names[teller]);
+        list_item(wave_counts[type].told[block][ACTIVE][teller],
+                  "%sdither-%s-told-by-%s-in-ACTIVE", prefix, name, teller_names[teller]);
     }
     for (size_t i = 0; i < PATH_ITEMS; i++)
-        list_item(path_counts[type][i], "dither-%s-%s", name, path_names[i]);
+        list_item(path_counts[block][type][i], "%sdither-%s-%s", prefix, name, path_names[i]);
 }
 
 static void list_triangle(void)
@@ -458,6 +461,10 @@ void list_dither_items(void)
 {
     list_wave(SQUARE);
     list_wave(TRIANGLE);
+    for (size_t block = 0; block < BLOCKS; block++) {
+        list_told(block, SQUARE);
+        list_told(block, TRIANGLE);
+    }
     list_triangle();
     list_item(off_count, "dither-off-with-amplitude-and-phase");
     for (size_t teller = 0; teller < TELLERS; teller++) {

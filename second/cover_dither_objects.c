@@ -4,22 +4,10 @@
 
 #include "cover.h"
 
-/* Written out here, and not taken from the model: a mistake there leaves items missing. */
-enum {
-    CODE_OBJECT = 0x06020000,
-    CODE_SUB_INDEX = 0x06090011,
-    CODE_READ_ONLY = 0x06010002,
-    CODE_LONG = 0x06070012,
-    CODE_SHORT = 0x06070013,
-    CODE_ANOTHER = 0x06090030,
-    CODE_HIGH = 0x06090031,
-    CODE_LOCKED = 0x08000022,
-    CODE_ENTRY = 0x06040041
-};
-
 enum { VALUES_MOST = 4, SIZE_MOST = 4, BEYOND_SUBS = 2 };
 
-/* An object, values worth a write in its range and beyond, and sub-indexes that it lacks. */
+/* An object, values worth a write in its range and beyond, and sub-indexes that it lacks. Written
+ * out here, and not taken from the model: a mistake there leaves items missing. */
 static const struct own_object {
     uint16_t index;
     uint8_t value_sub;
@@ -41,9 +29,6 @@ static const struct own_object {
 };
 
 /* ---- The items ---- */
-
-enum access { READ_ACCESS, WRITE_ACCESS, ACCESSES };
-static const char *const access_names[ACCESSES] = {"read", "written"};
 
 enum although_item {
     LENGTH_AND_RANGE,
@@ -98,11 +83,6 @@ static int64_t value_in(const struct request *request, const struct own_object *
 static bool is_in_range(const struct own_object *own, int64_t value)
 {
     return value >= 0 && value <= own->high;
-}
-
-static enum access access_of(const struct request *request)
-{
-    return request->size == 0 ? READ_ACCESS : WRITE_ACCESS;
 }
 
 /* The write changed this value and nothing else. */

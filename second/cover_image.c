@@ -241,10 +241,12 @@ static bool is_good(const struct check *check)
     return wrong_headers(check) == 0 && bad_values(check) == 0 && !check->crossed;
 }
 
-/* Whether one of the first so many values is not the device's. */
+/* Whether one of the first so many values is not the device's: those of the position block,
+ * whichever is selected. */
 static bool values_differ(const struct check *check, const struct device *device, size_t count)
 {
-    return memcmp(check->value, device->setting, count * sizeof check->value[0]) != 0;
+    const int64_t *setting = device->block[POSITION_BLOCK].setting;
+    return memcmp(check->value, setting, count * sizeof check->value[0]) != 0;
 }
 
 /* ---- Loads ---- */
@@ -309,11 +311,16 @@ static uint64_t changed_counts[SETTINGS];    /* by a load that is done */
 static uint64_t refused_counts[SETTINGS][2]; /* by 8, for one value alone: low, high */
 static uint64_t outside_counts[STATES];      /* by 9, of a good image */
 
-static void count_load_done(const struct seen *seen)
+/* It has brought the image's values to the position block, and changed nothing else. */
+static void count_load_done(const struct seen *seen, const struct check *check)
 {
-    const int64_t *before = seen->before->setting;
-    const int64_t *after = seen->after->setting;
+    const int64_t *before = seen->before->block[POSITION_BLOCK].setting;
+    const int64_t *after = seen->after->block[POSITION_BLOCK].setting;
     bool append = seen->record->kind == EVENT_APPEND;
+    struct device wanted = *seen->before;
+    memcpy(wanted.block[POSITION_BLOCK].setting, check->value, sizeof check->value);
+    if (!device_equal(&wanted, seen->after))
+        return;
     load_counts[LOAD_APPEND_OF_0] += append;
     load_counts[LOAD_LIMITS_EQUAL] += after[LOWER_LIMIT] == after[UPPER_LIMIT];
     for (size_t place = 0; place < SETTINGS; place++)
@@ -413,7 +420,7 @@ static void count_load(const struct seen *seen)
     struct check check = check_image(load.bytes);
     switch (seen->outcome->number) {
     case DONE:
-        count_load_done(seen);
+        count_load_done(seen, &check);
         break;
     case NOT_A_FULL_IMAGE:
         if (load.size == IMAGE_SIZE)

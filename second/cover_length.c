@@ -36,26 +36,29 @@ static size_t announced_size(uint8_t command)
     return 0;
 }
 
-static bool limits_cross(const struct device *device, const struct object *object, int64_t value)
+static bool limits_cross(const struct device *device, struct found found, int64_t value)
 {
-    const int64_t *setting = device->setting;
-    return (object->value == UPPER_LIMIT && value < setting[LOWER_LIMIT]) ||
-           (object->value == LOWER_LIMIT && value > setting[UPPER_LIMIT]);
+    const int64_t *setting = device->block[found.block].setting;
+    return (found.object->value == UPPER_LIMIT && value < setting[LOWER_LIMIT]) ||
+           (found.object->value == LOWER_LIMIT && value > setting[UPPER_LIMIT]);
 }
 
 /* A write of a wrong length has no value of its own: the one meant here is what
  * the request's data bytes say in the type, those beyond a short write too. */
-static void count_later_reasons(const struct seen *seen, const struct object *object,
+static void count_later_reasons(const struct seen *seen, struct found found,
                                 uint64_t counts[LATER_REASONS])
 {
+    const struct object *object = found.object;
     int64_t value = object_value(object, &seen->record->bytes[4]);
     counts[OUT_OF_RANGE] += value < object->low || value > object->high;
-    counts[LIMITS_CROSSED] += limits_cross(seen->before, object, value);
-    counts[LOCKED_IN_ACTIVE] += object->locked && seen->before->state == ACTIVE;
+    counts[LIMITS_CROSSED] += limits_cross(seen->before, found, value);
+    counts[LOCKED_IN_ACTIVE] +=
+        object->lock == LOCK_IN_ACTIVE && seen->before->state == ACTIVE;
 }
 
-void count_length_abort(const struct seen *seen, const struct object *object, uint32_t code)
+void count_length_abort(const struct seen *seen, struct found found, uint32_t code)
 {
+    const struct object *object = found.object;
     const uint8_t *request = seen->record->bytes;
     bool is_map = object->form == MAP_RECORD;
     bool is_value = is_map || request[3] == (object->form == VARIABLE ? 0 : 1);
@@ -69,7 +72,7 @@ void count_length_abort(const struct seen *seen, const struct object *object, ui
         read_only_counts[way] += code == ABORT_READ_ONLY;
     } else if (code == way_codes[way]) {
         size_counts[own][size]++;
-        count_later_reasons(seen, object, reason_counts[way]);
+        count_later_reasons(seen, found, reason_counts[way]);
     }
 }
 

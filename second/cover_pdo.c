@@ -167,9 +167,11 @@ static void count_order(const struct seen *seen, const uint8_t *pdo)
     receive_counts[TWICE_TO_ACTIVE] += before->state == DISABLED && after->state == ACTIVE;
     receive_counts[TWICE_OUT_OF_FAULT] +=
         before->state == FAULT && after->state == DISABLED && reset_stored;
-    receive_counts[SET_POINT_TWICE] += other.set_point != after->set_point;
+    const struct block *otherwise = &other.block[POSITION_BLOCK];
+    const struct block *set = &after->block[POSITION_BLOCK];
+    receive_counts[SET_POINT_TWICE] += otherwise->set_point != set->set_point;
     receive_counts[HOLD_SET_POINT_TWICE] +=
-        other.setting[HOLD_SET_POINT] != after->setting[HOLD_SET_POINT];
+        otherwise->setting[HOLD_SET_POINT] != set->setting[HOLD_SET_POINT];
 }
 
 static void count_receive(const struct seen *seen)
@@ -219,9 +221,12 @@ static struct {
     uint64_t changes;
 } last_sent[MAPPED_OBJECTS];
 
+/* The command is that of the position block: 0 while the other drives it. */
 static int64_t value_to_send(const struct device *device, size_t object)
 {
     static const enum query queries[MAPPED_OBJECTS] = {QUERY_STATUS, QUERY_ERROR, QUERY_COMMAND};
+    if (object == COMMAND_SENT && device->selected != POSITION_BLOCK)
+        return 0;
     return device_query(device, queries[object]).value;
 }
 
@@ -276,16 +281,6 @@ static void count_send(const struct seen *seen)
 
 /* ---- What leaves the maps alone ---- */
 
-static const struct {
-    uint8_t kind;
-    const char *name;
-} keepers[] = {
-    {EVENT_SDO, "sdo"},     {EVENT_CONTROL, "control"}, {EVENT_FAULT, "fault"},
-    {EVENT_TICK, "tick"},   {EVENT_JUMP, "jump"},       {EVENT_STORE, "store"},
-    {EVENT_LOAD, "load"},   {EVENT_TICKS, "ticks"},     {EVENT_RECEIVE, "receive"},
-    {EVENT_SEND, "send"},
-};
-enum { KEEPERS = sizeof keepers / sizeof keepers[0] };
 static uint64_t kept_counts[KEEPERS];
 static uint64_t cleared_count; /* by a fresh device */
 

@@ -8,11 +8,6 @@ static const char *const type_names[TYPES] = {"off", "square", "triangle"};
 
 static const uint64_t phase_range = UINT64_C(1) << 32;
 
-static bool is_idle(const struct device *device)
-{
-    return device->state == DISABLED || device->state == FAULT;
-}
-
 /* ---- Advances ---- */
 
 enum mover { BY_TICK, BY_TICKS, BY_JUMP, MOVERS };
@@ -161,16 +156,6 @@ static void count_move(const struct seen *seen)
 
 /* ---- What leaves the dither's values alone ---- */
 
-static const struct {
-    uint8_t kind;
-    const char *name;
-} keepers[] = {
-    {EVENT_SDO, "sdo"},     {EVENT_CONTROL, "control"}, {EVENT_FAULT, "fault"},
-    {EVENT_TICK, "tick"},   {EVENT_JUMP, "jump"},       {EVENT_STORE, "store"},
-    {EVENT_LOAD, "load"},   {EVENT_TICKS, "ticks"},     {EVENT_RECEIVE, "receive"},
-    {EVENT_SEND, "send"},
-};
-enum { KEEPERS = sizeof keepers / sizeof keepers[0] };
 static uint64_t keeper_counts[KEEPERS];
 static uint64_t values_cleared_count; /* by a fresh device */
 

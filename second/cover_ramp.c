@@ -85,22 +85,23 @@ static const char *const jump_names[JUMP_ITEMS] = {
     "jump-beyond-the-last-tick",
 };
 
-static struct {
+static struct type_counts {
     uint64_t way[WAY_ITEMS];
     uint64_t tick[DIRECTIONS][TICK_ITEMS];
     uint64_t stop_at_target_zero[DIRECTIONS];
     uint64_t told[DIRECTIONS][TOLD_ITEMS];
     uint64_t jump[DIRECTIONS][JUMP_ITEMS];
-} counts[RAMP_TYPES];
+} counts[BLOCKS][RAMP_TYPES];
 
 /* ---- A way and where it should lead ---- */
 
 enum side { POSITIVE, NEGATIVE, SIDES };
 enum course { OUTWARD, INWARD, COURSES };
 
-/* The times are those toward zero on the side where it starts and away from zero on the side
- * where it leads; type 0 has none. */
+/* Of the selected block. The times are those toward zero on the side where it starts and away
+ * from zero on the side where it leads; type 0 has none. */
 struct way {
+    size_t block;
     size_t type;
     int64_t from;
     int64_t target;
@@ -116,9 +117,11 @@ static struct way way_of(const struct device *device)
         [3] = {{ACCELERATION_POSITIVE, DECELERATION_POSITIVE},
                {ACCELERATION_NEGATIVE, DECELERATION_NEGATIVE}},
     };
-    const int64_t *setting = device->setting;
-    struct way way = {.type = (size_t)setting[RAMP_TYPE], .from = device->position};
-    way.target = device_query(device, QUERY_TARGET).value * PER_IR;
+    const struct block *block = selected_of(device);
+    const int64_t *setting = block->setting;
+    struct way way = {.block = device->selected, .type = (size_t)setting[RAMP_TYPE]};
+    way.from = block->position;
+    way.target = target_wanted(block, device->state) * PER_IR;
     if (way.type == 0)
         return way;
     way.time_in = setting[times[way.type][way.from < 0 ? NEGATIVE : POSITIVE][INWARD]];
@@ -239,11 +242,6 @@ static bool is_told_apart(const struct way *way, int64_t ticks)
     return led_straight(way, ticks) != led_by_legs(way, ticks);
 }
 
-static bool is_idle(const struct device *device)
-{
-    return device->state == DISABLED || device->state == FAULT;
-}
-
 static bool is_ramp_across(const struct device *device, const struct way *way)
 {
     return !is_idle(device) && way->type != 0 && leads_across(way);
@@ -289,12 +287,12 @@ static struct device left_at_zero;
 
 static void count_tick_across(const struct way *way, const struct device *after)
 {
-    uint64_t *items = counts[way->type].tick[direction_of(way)];
+    uint64_t *items = counts[way->block][way->type].tick[direction_of(way)];
     if (way->type == ONE_TIME)
         count_straight_tick(way, items);
     else
         count_halting_tick(way, items);
-    if (after->position == 0)
+    if (selected_of(after)->position == 0)
         left_at_zero = *after;
 }
 
@@ -302,14 +300,15 @@ static void count_tick(const struct device *before, const struct device *after)
 {
     struct way way = way_of(before);
     enum direction direction = direction_of(&way);
-    int64_t to = after->position;
+    int64_t to = selected_of(after)->position;
     if (is_idle(before) || to == way.from || led_to(&way, to) != should_lead(&way, 1))
         return;
-    counts[way.type].way[way_item_of(&way, to)]++;
+    struct type_counts *from = &counts[way.block][way.type];
+    from->way[way_item_of(&way, to)]++;
     if (way.type == 0)
         return;
-    counts[way.type].tick[direction][GOES_ON] += device_equal(before, &left_at_zero);
-    counts[way.type].stop_at_target_zero[direction] +=
+    from->tick[direction][GOES_ON] += device_equal(before, &left_at_zero);
+    from->stop_at_target_zero[direction] +=
         way.target == 0 && whole_length(&way) < step_in(&way);
     if (leads_across(&way))
         count_tick_across(&way, after);
@@ -341,7 +340,7 @@ static void count_told(const struct seen *seen)
         return;
     int64_t straight = ticks_straight(&way);
     int64_t by_legs = ticks_by_legs(&way);
-    uint64_t *items = counts[way.type].told[direction_of(&way)];
+    uint64_t *items = counts[way.block][way.type].told[direction_of(&way)];
     items[FEWER_THAN_BY_LEGS] += told == straight && told == by_legs - 1;
     items[AS_MANY_AS_BY_LEGS] += told == straight && told == by_legs;
     items[BY_LEGS] += told == by_legs && told != straight;
@@ -354,7 +353,7 @@ static void count_jump(const struct seen *seen)
 {
     struct way way = way_of(seen->before);
     int64_t ticks = seen->record->number;
-    int64_t led = led_to(&way, seen->after->position);
+    int64_t led = led_to(&way, selected_of(seen->after)->position);
     if (!is_ramp_across(seen->before, &way) || ticks == 0 || led != should_lead(&way, ticks))
         return;
     bool straight = way.type == ONE_TIME;
@@ -363,7 +362,7 @@ static void count_jump(const struct seen *seen)
     bool whole_steps = length_to_zero(&way) % step_in(&way) == 0;
     int64_t to_zero = ticks_to_zero(&way);
     int64_t last = straight ? ticks_straight(&way) : ticks_by_legs(&way);
-    uint64_t *items = counts[way.type].jump[direction_of(&way)];
+    uint64_t *items = counts[way.block][way.type].jump[direction_of(&way)];
     items[JUMP_BEFORE_ZERO] += ticks == to_zero - 1;
     items[JUMP_TO_ZERO] += ticks == to_zero && whole_steps;
     items[JUMP_TICKS_TO_ZERO] += ticks == to_zero && !whole_steps && apart;
@@ -408,32 +407,43 @@ static bool is_told_item_of(size_t type, size_t item)
     return (item == BY_LEGS) == (type != ONE_TIME);
 }
 
-static void list_across(size_t type, size_t direction)
+static void list_across(size_t block, size_t type, size_t direction)
 {
+    const struct type_counts *from = &counts[block][type];
+    const char *prefix = block_prefixes[block];
     const char *name = direction_names[direction];
     for (size_t i = 0; i < TICK_ITEMS; i++)
         if (is_tick_item_of(type, i))
-            list_item(counts[type].tick[direction][i], "ramp-%d-%s-%s", (int)type, name,
+            list_item(from->tick[direction][i], "%sramp-%d-%s-%s", prefix, (int)type, name,
                       tick_names[i]);
     for (size_t i = 0; i < MOST; i++)
         if (is_told_item_of(type, i))
-            list_item(counts[type].told[direction][i], "ramp-%d-%s-%s", (int)type, name,
+            list_item(from->told[direction][i], "%sramp-%d-%s-%s", prefix, (int)type, name,
                       told_names[i]);
-    list_item(counts[type].told[direction][MOST], "ramp-%d-%s-ticks-to-go-%d", (int)type, name,
+    list_item(from->told[direction][MOST], "%sramp-%d-%s-ticks-to-go-%d", prefix, (int)type, name,
               (int)most_ticks[type]);
     for (size_t i = 0; i < JUMP_ITEMS; i++)
-        list_item(counts[type].jump[direction][i], "ramp-%d-%s-%s", (int)type, name,
+        list_item(from->jump[direction][i], "%sramp-%d-%s-%s", prefix, (int)type, name,
                   jump_names[i]);
+}
+
+static void list_block(size_t block)
+{
+    const char *prefix = block_prefixes[block];
+    const uint64_t *stops = counts[block][ONE_TIME].stop_at_target_zero;
+    for (size_t type = 0; type < RAMP_TYPES; type++)
+        for (size_t i = 0; i < WAY_ITEMS; i++)
+            list_item(counts[block][type].way[i], "%sramp-%d-%s", prefix, (int)type,
+                      way_names[i]);
+    for (size_t type = ONE_TIME; type < RAMP_TYPES; type++)
+        for (size_t direction = 0; direction < DIRECTIONS; direction++)
+            list_across(block, type, direction);
+    list_item(stops[DOWN], "%sramp-1-positive-stops-at-target-zero", prefix);
+    list_item(stops[UP], "%sramp-1-negative-stops-at-target-zero", prefix);
 }
 
 void list_ramp_items(void)
 {
-    for (size_t type = 0; type < RAMP_TYPES; type++)
-        for (size_t i = 0; i < WAY_ITEMS; i++)
-            list_item(counts[type].way[i], "ramp-%d-%s", (int)type, way_names[i]);
-    for (size_t type = ONE_TIME; type < RAMP_TYPES; type++)
-        for (size_t direction = 0; direction < DIRECTIONS; direction++)
-            list_across(type, direction);
-    list_item(counts[ONE_TIME].stop_at_target_zero[DOWN], "ramp-1-positive-stops-at-target-zero");
-    list_item(counts[ONE_TIME].stop_at_target_zero[UP], "ramp-1-negative-stops-at-target-zero");
+    for (size_t block = 0; block < BLOCKS; block++)
+        list_block(block);
 }

@@ -113,9 +113,18 @@ static const char *const broken_names[BROKEN_KINDS] = {
     "dither-least",
     "DISABLED-with-phase-1",
     "FAULT-with-phase-4294967295",
+    "selection-2",
+    "selection-255",
+    "unselected-position-1",
+    "unselected-position-minus-1",
+    "unselected-setting-above-range",
+    "unselected-setting-below-range",
+    "unselected-limits-crossed",
+    "unselected-set-point-above-range",
+    "unselected-set-point-below-range",
     "state-255",
 };
-enum { SETTING_WAYS = BROKEN_SETTING_LEAST + 1 };
+enum { SETTING_WAYS = BROKEN_SETTING_LEAST + 1, UNSELECTED_WAYS = BROKEN_SETTING_BELOW + 1 };
 static const char *const setting_way_names[SETTING_WAYS] = {"above-range", "below-range", "most",
                                                             "least"};
 static const char *const dither_way_names[SETTING_WAYS] = {"above-range", "minus-1", "most",
@@ -129,7 +138,8 @@ static struct {
 static struct {
     uint64_t call[BROKEN_KINDS][CALLS];
     uint64_t state[BROKEN_KINDS][STATES];
-    uint64_t setting[SETTINGS][SETTING_WAYS];
+    uint64_t setting[BLOCKS][SETTINGS][SETTING_WAYS]; /* of the block while it is selected */
+    uint64_t unselected[BLOCKS][SETTINGS][UNSELECTED_WAYS]; /* and while it is not */
     uint64_t dither[DITHER_VALUES][SETTING_WAYS];
     uint64_t map[MAPS][BROKEN_KINDS];
     uint64_t map_entry[MAPS][MAP_ENTRIES][BROKEN_KINDS];
@@ -175,10 +185,16 @@ static void count_broken_map(size_t way, const struct seen *seen, uint32_t call)
 
 static void count_broken(size_t way, const struct seen *seen, uint32_t call)
 {
+    const struct device *device = seen->before;
+    size_t place = seen->record->word % SETTINGS;
     broken_counts.call[way][call]++;
-    broken_counts.state[way][seen->before->state]++;
+    broken_counts.state[way][device->state]++;
     if (way < SETTING_WAYS)
-        broken_counts.setting[seen->record->word % SETTINGS][way]++;
+        broken_counts.setting[device->selected][place][way]++;
+    if (way == BROKEN_OTHER_SETTING_ABOVE || way == BROKEN_OTHER_SETTING_BELOW) {
+        uint64_t *ways = broken_counts.unselected[other_block(device->selected)][place];
+        ways[way - BROKEN_OTHER_SETTING_ABOVE]++;
+    }
     if (way >= BROKEN_DITHER_ABOVE && way <= BROKEN_DITHER_LEAST)
         broken_counts.dither[seen->record->word % DITHER_VALUES][way - BROKEN_DITHER_ABOVE]++;
     if (is_map_way(way))
@@ -208,11 +224,13 @@ static void count_not_sound(const struct seen *seen)
 enum end { HIGHEST, LOWEST, ENDS };
 static const char *const end_names[ENDS] = {"highest", "lowest"};
 
-static uint64_t setting_end_counts[SETTINGS][ENDS];
-static uint64_t set_point_end_counts[ENDS];
-static uint64_t position_end_counts[ENDS];
-static uint64_t negative_counts[STATES];
-static uint64_t limits_equal_count;
+static struct {
+    uint64_t setting[SETTINGS][ENDS];
+    uint64_t set_point[ENDS];
+    uint64_t position[ENDS];
+    uint64_t negative[STATES];
+    uint64_t limits_equal;
+} sound_counts[BLOCKS];
 
 /* An end counts when it is reached, not while the value stays there. */
 static void count_end(uint64_t counts[ENDS], int64_t before, int64_t after, int64_t low,
@@ -222,26 +240,28 @@ static void count_end(uint64_t counts[ENDS], int64_t before, int64_t after, int6
     counts[LOWEST] += before != after && after == low;
 }
 
-static void count_sound(const struct seen *seen)
+static void count_sound(const struct seen *seen, enum block_kind kind)
 {
-    const struct device *before = seen->before;
-    const struct device *after = seen->after;
+    const struct block *before = &seen->before->block[kind];
+    const struct block *after = &seen->after->block[kind];
     const int64_t *setting = after->setting;
     for (size_t place = 0; place < SETTINGS; place++) {
         const struct object *object = object_of_setting(place);
-        count_end(setting_end_counts[place], before->setting[place], setting[place], object->low,
-                  object->high);
+        count_end(sound_counts[kind].setting[place], before->setting[place], setting[place],
+                  object->low, object->high);
     }
-    count_end(set_point_end_counts, before->set_point, after->set_point, INT16_MIN, INT16_MAX);
-    count_end(position_end_counts, before->position, after->position, -FULL_POSITION,
+    count_end(sound_counts[kind].set_point, before->set_point, after->set_point, INT16_MIN,
+              INT16_MAX);
+    count_end(sound_counts[kind].position, before->position, after->position, -FULL_POSITION,
               FULL_POSITION);
-    negative_counts[after->state] += after->position < 0;
-    limits_equal_count += setting[LOWER_LIMIT] == setting[UPPER_LIMIT];
+    sound_counts[kind].negative[seen->after->state] += after->position < 0;
+    sound_counts[kind].limits_equal += setting[LOWER_LIMIT] == setting[UPPER_LIMIT];
 }
 
 void count_refusals(const struct seen *seen)
 {
-    count_sound(seen);
+    count_sound(seen, POSITION_BLOCK);
+    count_sound(seen, PRESSURE_BLOCK);
     switch (seen->record->kind) {
     case EVENT_SDO:
     case EVENT_WIDE:
@@ -292,10 +312,23 @@ static void list_not_sound(void)
                   unsound_counts.state[way]);
     for (size_t way = 0; way < BROKEN_KINDS; way++)
         list_ways("broken", broken_names[way], broken_counts.call[way], broken_counts.state[way]);
+}
+
+static unsigned setting_index(size_t block, size_t place)
+{
+    return object_index((struct found){object_of_setting(place), (enum block_kind)block});
+}
+
+static void list_broken_settings(size_t block)
+{
     for (size_t place = 0; place < SETTINGS; place++)
         for (size_t way = 0; way < SETTING_WAYS; way++)
-            list_item(broken_counts.setting[place][way], "broken-%04X-%s",
-                      (unsigned)object_of_setting(place)->index, setting_way_names[way]);
+            list_item(broken_counts.setting[block][place][way], "broken-%04X-%s",
+                      setting_index(block, place), setting_way_names[way]);
+    for (size_t place = 0; place < SETTINGS; place++)
+        for (size_t way = 0; way < UNSELECTED_WAYS; way++)
+            list_item(broken_counts.unselected[block][place][way], "broken-unselected-%04X-%s",
+                      setting_index(block, place), setting_way_names[way]);
 }
 
 static void list_broken_dither(void)
@@ -326,26 +359,34 @@ static void list_broken_maps(void)
     }
 }
 
-static void list_sound(void)
+static void list_sound(size_t block)
 {
+    static const unsigned set_points[BLOCKS] = {0x6300, 0x6380};
+    const char *prefix = block_prefixes[block];
     for (size_t place = 0; place < SETTINGS; place++)
         for (size_t end = 0; end < ENDS; end++)
-            list_item(setting_end_counts[place][end], "sound-%04X-%s",
-                      (unsigned)object_of_setting(place)->index, end_names[end]);
+            list_item(sound_counts[block].setting[place][end], "sound-%04X-%s",
+                      setting_index(block, place), end_names[end]);
     for (size_t end = 0; end < ENDS; end++)
-        list_item(set_point_end_counts[end], "sound-6300-%s", end_names[end]);
+        list_item(sound_counts[block].set_point[end], "sound-%04X-%s", set_points[block],
+                  end_names[end]);
     for (size_t end = 0; end < ENDS; end++)
-        list_item(position_end_counts[end], "sound-position-%s", end_names[end]);
-    list_item(negative_counts[HOLD], "sound-position-negative-in-HOLD");
-    list_item(negative_counts[ACTIVE], "sound-position-negative-in-ACTIVE");
-    list_item(limits_equal_count, "sound-limits-equal");
+        list_item(sound_counts[block].position[end], "%ssound-position-%s", prefix,
+                  end_names[end]);
+    list_item(sound_counts[block].negative[HOLD], "%ssound-position-negative-in-HOLD", prefix);
+    list_item(sound_counts[block].negative[ACTIVE], "%ssound-position-negative-in-ACTIVE",
+              prefix);
+    list_item(sound_counts[block].limits_equal, "%ssound-limits-equal", prefix);
 }
 
 void list_refusal_items(void)
 {
     list_requests();
     list_not_sound();
+    for (size_t block = 0; block < BLOCKS; block++)
+        list_broken_settings(block);
     list_broken_dither();
     list_broken_maps();
-    list_sound();
+    for (size_t block = 0; block < BLOCKS; block++)
+        list_sound(block);
 }

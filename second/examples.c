@@ -1,4 +1,4 @@
-/* `second examples`: the worked examples of document 01, and some of wishes 2 to 4 of document
+/* `second examples`: the worked examples of document 01, and some of wishes 2 to 6 of document
  * 02, as events, by hand. */
 #include <stdio.h>
 #include <string.h>
@@ -56,7 +56,7 @@ static void sdo(const uint8_t request[SDO_SIZE])
 static void set_entry(uint16_t index, uint8_t sub, uint32_t data)
 {
     static const uint8_t commands[] = {0, WRITE_1, WRITE_2, WRITE_3, WRITE_4};
-    uint8_t request[SDO_SIZE] = {commands[object_entry_size(object_find(index), sub)],
+    uint8_t request[SDO_SIZE] = {commands[object_entry_size(object_find(index).object, sub)],
                                  (uint8_t)index,
                                  (uint8_t)(index >> 8),
                                  sub,
@@ -70,7 +70,7 @@ static void set_entry(uint16_t index, uint8_t sub, uint32_t data)
 /* A write of the value of an object. */
 static void set(uint16_t index, int64_t value)
 {
-    set_entry(index, object_find(index)->form == VARIABLE ? 0 : 1, (uint32_t)value);
+    set_entry(index, object_find(index).object->form == VARIABLE ? 0 : 1, (uint32_t)value);
 }
 
 static void receive(const uint8_t *pdo, uint8_t size)
@@ -85,6 +85,12 @@ static void send(uint16_t room)
     give((struct record){.kind = EVENT_SEND, .word = room});
 }
 
+static void read_entry(uint16_t index, uint8_t sub)
+{
+    const uint8_t request[SDO_SIZE] = {READ, (uint8_t)index, (uint8_t)(index >> 8), sub};
+    sdo(request);
+}
+
 /* A fresh device in HOLD, where the hold set point is the input. */
 static void fresh_in_hold(void)
 {
@@ -92,12 +98,23 @@ static void fresh_in_hold(void)
     control(1);
 }
 
+/* An object of a block by its index in the position block. */
+static void set_in(enum block_kind block, uint16_t index, int64_t value)
+{
+    set((uint16_t)(index + (block == PRESSURE_BLOCK ? BLOCK_OFFSET : 0)), value);
+}
+
 /* Ramp type 0 sets the position with one tick. */
+static void place_in(enum block_kind block, int64_t ir)
+{
+    set_in(block, 0x6330, 0);
+    set_in(block, 0x6314, ir);
+    tick(1);
+}
+
 static void place_at(int64_t ir)
 {
-    set(0x6330, 0);
-    set(0x6314, ir);
-    tick(1);
+    place_in(POSITION_BLOCK, ir);
 }
 
 /* ---- The examples in their order ---- */
@@ -183,19 +200,21 @@ static void example_one_time(void)
 }
 
 /* The most ticks to go, from end to end in both directions. */
-static void example_end_to_end(int64_t type, uint32_t ticks)
+static void example_end_to_end(enum block_kind block, int64_t type, uint32_t ticks)
 {
-    fresh_in_hold();
-    place_at(16384);
+    fresh();
+    set(0x2000, block);
+    control(1);
+    place_in(block, 16384);
     for (uint16_t index = 0x6331; index <= 0x6336; index++)
-        set(index, 3600000);
-    set(0x6330, type);
-    set(0x6314, -16384);
+        set_in(block, index, 3600000);
+    set_in(block, 0x6330, type);
+    set_in(block, 0x6314, -16384);
     query();
     jump(ticks - 1);
     query(); /* 1 to go */
     tick(1);
-    set(0x6314, 16384);
+    set_in(block, 0x6314, 16384);
     query();
     jump(ticks);
     query(); /* none to go */
@@ -204,7 +223,6 @@ static void example_end_to_end(int64_t type, uint32_t ticks)
 static void example_dead_band(void)
 {
     static const int16_t places[] = {20, 21, -20, -21, -16300};
-    static const uint8_t read_command[SDO_SIZE] = {READ, 0x10, 0x63, 1};
     fresh_in_hold();
     set(0x6342, 1);
     set(0x6345, 20);
@@ -213,7 +231,7 @@ static void example_dead_band(void)
     for (size_t i = 0; i < sizeof places / sizeof places[0]; i++) {
         place_at(places[i]);
         query(); /* command 0, 321, 0, -221, -16384 */
-        sdo(read_command);
+        read_entry(0x6310, 1);
     }
 }
 
@@ -341,6 +359,44 @@ static void example_dither_by_hertz(void)
     query();    /* 0 */
 }
 
+/* The pressure block selected: it alone moves, and the command of the other reads 0. */
+static void example_pressure(void)
+{
+    fresh();
+    set(0x2000, 2); /* 06090031h */
+    set(0x2000, 1);
+    set(0x63a1, 0);
+    set(0x63a0, -1);    /* 06090036h, although the position block's lower limit is -16384 */
+    set(0x6320, -1);    /* taken, although the pressure block's lower limit is 0 */
+    set(0x63a0, 12000); /* limits 0 to 12000 */
+    set(0x63b0, 1);
+    set(0x63b1, TIME_OF_32_IR);
+    set(0x6314, -5000);
+    set(0x6394, 100);
+    control(1);     /* HOLD */
+    set(0x2000, 2); /* 06090031h comes before the lock */
+    set(0x2000, 1); /* 08000022h, although it is the value that it has */
+    query();        /* target 100, 4 ticks to go */
+    tick(2);
+    query();               /* at 64 ir */
+    read_entry(0x6390, 1); /* 64 */
+    read_entry(0x6310, 1); /* 0 */
+    set(0x6380, 16000);
+    control(7);      /* ACTIVE */
+    set(0x63b0, 0);  /* 08000022h */
+    set(0x6330, 1);  /* 08000022h, whichever block is selected */
+    jump(373);       /* so many steps of 32 ir to the upper limit */
+    query();         /* target and position 12000 */
+    control(0);      /* DISABLED: the position is 0 */
+    set(0x2000, 0);  /* the position block with the settings that it had */
+    control(1);      /* HOLD */
+    tick(1);
+    query();               /* at its target, -5000 ir */
+    read_entry(0x6310, 1); /* -5000 */
+    read_entry(0x6390, 1); /* 0 */
+    read_entry(0x63b1, 1); /* 512 */
+}
+
 /* Ends fresh, so that a made file may follow as if from the start. */
 int mode_examples(void)
 {
@@ -353,11 +409,14 @@ int mode_examples(void)
     example_receive();
     example_send();
     example_one_time();
-    example_end_to_end(1, 7206321);
-    example_end_to_end(2, 7206322); /* a halt at zero */
-    example_end_to_end(3, 7206322);
+    for (int block = 0; block < BLOCKS; block++) {
+        example_end_to_end((enum block_kind)block, 1, 7206321);
+        example_end_to_end((enum block_kind)block, 2, 7206322); /* a halt at zero */
+        example_end_to_end((enum block_kind)block, 3, 7206322);
+    }
     example_dither_by_quarters();
     example_dither_by_hertz();
+    example_pressure();
     fresh();
     return EXIT_GOOD;
 }

@@ -35,6 +35,56 @@ uint32_t next_turn(struct maker *m, enum sweep sweep)
     return m->turns[sweep]++;
 }
 
+/* ---- Blocks and objects ---- */
+
+const struct block *block_now(const struct maker *m)
+{
+    return &m->run.device.block[m->run.device.selected];
+}
+
+enum block_kind block_of_turn(uint32_t turn)
+{
+    return turn % BLOCKS == 0 ? POSITION_BLOCK : PRESSURE_BLOCK;
+}
+
+enum block_kind block_by_chance(struct maker *m)
+{
+    return block_of_turn(below(m, BLOCKS));
+}
+
+struct found setting_of(enum block_kind block, size_t place)
+{
+    return (struct found){object_of_setting(place), block};
+}
+
+/* An object of the selected block, by the index that it has in the position block. */
+static struct found object_now(const struct maker *m, uint16_t index)
+{
+    struct found found = object_find(index);
+    found.block = (enum block_kind)m->run.device.selected;
+    return found;
+}
+
+struct found setting_now(const struct maker *m, size_t place)
+{
+    return object_now(m, object_of_setting(place)->index);
+}
+
+struct found set_point_now(const struct maker *m)
+{
+    return object_now(m, 0x6300);
+}
+
+struct found command_now(const struct maker *m)
+{
+    return object_now(m, 0x6310);
+}
+
+struct found dither_object(size_t place)
+{
+    return object_find(object_of_dither(place)->index);
+}
+
 /* ---- Values at the edges ---- */
 
 uint32_t pick_time(struct maker *m)
@@ -95,9 +145,9 @@ int64_t pick_edge(struct maker *m, const struct object *object)
     }
 }
 
-const struct object *pick_object(struct maker *m)
+struct found pick_object(struct maker *m)
 {
-    return &objects[below(m, OBJECTS)];
+    return object_at(below(m, ALL_OBJECTS));
 }
 
 /* ---- Events ---- */
@@ -169,26 +219,44 @@ uint8_t value_sub(const struct object *object)
     return object->form == VARIABLE ? 0 : 1;
 }
 
-/* A write of the right size; the data bytes beyond it hold anything at times. */
-void emit_entry_write(struct maker *m, const struct object *object, uint8_t sub, int64_t value)
+/* The data bytes of a read are ignored. */
+void emit_read(struct maker *m, struct found found, uint8_t sub)
 {
-    size_t size = object_entry_size(object, sub);
+    uint32_t ignored = (uint32_t)draw(m);
+    emit_sdo(m, READ, object_index(found), sub, ignored);
+}
+
+void emit_value_read(struct maker *m, struct found found)
+{
+    emit_read(m, found, value_sub(found.object));
+}
+
+void emit_sized_write(struct maker *m, struct found found, uint8_t sub, size_t size,
+                      int64_t value)
+{
+    emit_sdo(m, write_command(size), object_index(found), sub, (uint32_t)value);
+}
+
+/* A write of the right size; the data bytes beyond it hold anything at times. */
+void emit_entry_write(struct maker *m, struct found found, uint8_t sub, int64_t value)
+{
+    size_t size = object_entry_size(found.object, sub);
     uint32_t data = (uint32_t)value;
     if (size < 4 && one_in(m, 3)) {
         uint32_t kept = (UINT32_C(1) << (8 * size)) - 1;
         data = (data & kept) | ((uint32_t)draw(m) & ~kept);
     }
-    emit_sdo(m, write_command(size), object->index, sub, data);
+    emit_sized_write(m, found, sub, size, data);
 }
 
-void emit_write(struct maker *m, const struct object *object, int64_t value)
+void emit_write(struct maker *m, struct found found, int64_t value)
 {
-    emit_entry_write(m, object, value_sub(object), value);
+    emit_entry_write(m, found, value_sub(found.object), value);
 }
 
 void emit_setting(struct maker *m, enum setting place, int64_t value)
 {
-    emit_write(m, object_of_setting(place), value);
+    emit_write(m, setting_now(m, place), value);
 }
 
 /* A control word, by its call or by SDO; bits 4 to 15 hold anything at times. */
@@ -207,7 +275,7 @@ void emit_control(struct maker *m, uint16_t bits)
 void emit_target(struct maker *m, int64_t ir)
 {
     if (m->run.device.state == ACTIVE)
-        emit_write(m, object_find(0x6300), ir);
+        emit_write(m, set_point_now(m), ir);
     else
         emit_setting(m, HOLD_SET_POINT, ir);
 }
@@ -275,6 +343,25 @@ void steer_to(struct maker *m, enum device_state state)
     }
 }
 
+/* Another block can be selected in DISABLED alone. */
+void select_block(struct maker *m, enum block_kind block)
+{
+    if (m->run.device.selected == block)
+        return;
+    steer_to_disabled(m);
+    emit_write(m, object_find(0x2000), block);
+}
+
+void select_by_turn(struct maker *m, uint32_t turn)
+{
+    select_block(m, block_of_turn(turn));
+}
+
+void select_by_chance(struct maker *m)
+{
+    select_block(m, block_by_chance(m));
+}
+
 uint32_t ticks_left(const struct device *device)
 {
     return (uint32_t)device_query(device, QUERY_TICKS_TO_GO).value;
@@ -284,8 +371,9 @@ uint32_t ticks_left(const struct device *device)
  * type 1 they may lead beyond it. */
 uint32_t ticks_left_to_zero(struct device copy)
 {
-    copy.setting[SCALING_FACTOR] = 0;
-    copy.setting[SCALING_OFFSET] = 0;
-    copy.setting[ZERO_CORRECTION] = 0;
+    int64_t *setting = copy.block[copy.selected].setting;
+    setting[SCALING_FACTOR] = 0;
+    setting[SCALING_OFFSET] = 0;
+    setting[ZERO_CORRECTION] = 0;
     return ticks_left(&copy);
 }

@@ -1,6 +1,6 @@
-/* The device of document 01, in the order of that paper, with wishes 1 to 4 of document 02;
+/* The device of document 01, in the order of that paper, with wishes 1 to 6 of document 02;
  * dither, wish 4, stands before the ramp, whose ticks advance its phase, and process data, wish
- * 2, behind SDO. */
+ * 2, behind SDO. What is a rule of a block, of which wish 6 makes two, stands once. */
 #include "model.h"
 
 #include <string.h>
@@ -24,37 +24,38 @@ static int64_t magnitude(int64_t value)
 #define U32_ALL 0, UINT32_MAX
 #define TIMES 0, 3600000
 
-/* The rows of the settings stand together and in the order of their tags; those of the dither
- * stand last. */
+/* The rows of a block stand together, from the set point on, and among them those of the settings
+ * in the order of their tags; those of the dither stand last. */
 const struct object objects[OBJECTS] = {
-    /* index, form, type, access, locked, low, high, fresh, value */
-    {0x1600, MAP_RECORD, U32, READ_WRITE, false, U32_ALL, 0, RECEIVE_MAPPING},
-    {0x1a00, MAP_RECORD, U32, READ_WRITE, false, U32_ALL, 0, TRANSMIT_MAPPING},
-    {0x6040, VARIABLE, U16, READ_WRITE, false, U16_ALL, 0, CONTROL_WORD},
-    {0x6041, VARIABLE, U16, READ_ONLY, false, U16_ALL, 0, STATUS_WORD},
-    {0x604e, VARIABLE, U16, READ_ONLY, false, U16_ALL, 0, ERROR_CODE},
-    {0x6300, RECORD, I16, READ_WRITE, false, I16_ALL, 0, SET_POINT},
-    {0x6310, RECORD, I16, READ_ONLY, false, I16_ALL, 0, COMMAND},
-    {0x6314, RECORD, I16, READ_WRITE, false, I16_ALL, 0, HOLD_SET_POINT},
-    {0x6320, RECORD, I16, READ_WRITE, false, I16_ALL, FULL_STROKE, UPPER_LIMIT},
-    {0x6321, RECORD, I16, READ_WRITE, false, I16_ALL, -FULL_STROKE, LOWER_LIMIT},
-    {0x6322, VARIABLE, U32, READ_WRITE, false, U32_ALL, 65536, SCALING_FACTOR},
-    {0x6323, RECORD, I16, READ_WRITE, false, I16_ALL, 0, SCALING_OFFSET},
-    {0x6324, RECORD, I16, READ_WRITE, false, I16_ALL, 0, ZERO_CORRECTION},
-    {0x6330, VARIABLE, I8, READ_WRITE, true, 0, 3, 0, RAMP_TYPE},
-    {0x6331, TIME_RECORD, U32, READ_WRITE, true, TIMES, 0, ACCELERATION_ONE},
-    {0x6332, TIME_RECORD, U32, READ_WRITE, true, TIMES, 0, ACCELERATION_POSITIVE},
-    {0x6333, TIME_RECORD, U32, READ_WRITE, true, TIMES, 0, ACCELERATION_NEGATIVE},
-    {0x6334, TIME_RECORD, U32, READ_WRITE, true, TIMES, 0, DECELERATION_ONE},
-    {0x6335, TIME_RECORD, U32, READ_WRITE, true, TIMES, 0, DECELERATION_POSITIVE},
-    {0x6336, TIME_RECORD, U32, READ_WRITE, true, TIMES, 0, DECELERATION_NEGATIVE},
-    {0x6342, VARIABLE, I8, READ_WRITE, true, 0, 1, 0, DEAD_BAND_TYPE},
-    {0x6343, RECORD, I16, READ_WRITE, true, 0, 4096, 0, DEAD_BAND_A_SIDE},
-    {0x6344, RECORD, I16, READ_WRITE, true, 0, 4096, 0, DEAD_BAND_B_SIDE},
-    {0x6345, RECORD, I16, READ_WRITE, true, 0, 16384, 0, DEAD_BAND_THRESHOLD},
-    {0x6360, VARIABLE, I8, READ_WRITE, true, 0, 2, 0, SHOWN_DITHER_TYPE},
-    {0x6361, RECORD, U16, READ_WRITE, true, 0, 1024, 0, SHOWN_DITHER_AMPLITUDE},
-    {0x6362, RECORD, U16, READ_WRITE, true, 0, 250, 0, SHOWN_DITHER_FREQUENCY},
+    /* index, form, type, access, lock, low, high, fresh, value */
+    {0x1600, MAP_RECORD, U32, READ_WRITE, NO_LOCK, U32_ALL, 0, RECEIVE_MAPPING},
+    {0x1a00, MAP_RECORD, U32, READ_WRITE, NO_LOCK, U32_ALL, 0, TRANSMIT_MAPPING},
+    {0x2000, VARIABLE, U8, READ_WRITE, LOCK_OUTSIDE_DISABLED, 0, 1, POSITION_BLOCK, SELECTION},
+    {0x6040, VARIABLE, U16, READ_WRITE, NO_LOCK, U16_ALL, 0, CONTROL_WORD},
+    {0x6041, VARIABLE, U16, READ_ONLY, NO_LOCK, U16_ALL, 0, STATUS_WORD},
+    {0x604e, VARIABLE, U16, READ_ONLY, NO_LOCK, U16_ALL, 0, ERROR_CODE},
+    {0x6300, RECORD, I16, READ_WRITE, NO_LOCK, I16_ALL, 0, SET_POINT},
+    {0x6310, RECORD, I16, READ_ONLY, NO_LOCK, I16_ALL, 0, COMMAND},
+    {0x6314, RECORD, I16, READ_WRITE, NO_LOCK, I16_ALL, 0, HOLD_SET_POINT},
+    {0x6320, RECORD, I16, READ_WRITE, NO_LOCK, I16_ALL, FULL_STROKE, UPPER_LIMIT},
+    {0x6321, RECORD, I16, READ_WRITE, NO_LOCK, I16_ALL, -FULL_STROKE, LOWER_LIMIT},
+    {0x6322, VARIABLE, U32, READ_WRITE, NO_LOCK, U32_ALL, 65536, SCALING_FACTOR},
+    {0x6323, RECORD, I16, READ_WRITE, NO_LOCK, I16_ALL, 0, SCALING_OFFSET},
+    {0x6324, RECORD, I16, READ_WRITE, NO_LOCK, I16_ALL, 0, ZERO_CORRECTION},
+    {0x6330, VARIABLE, I8, READ_WRITE, LOCK_IN_ACTIVE, 0, 3, 0, RAMP_TYPE},
+    {0x6331, TIME_RECORD, U32, READ_WRITE, LOCK_IN_ACTIVE, TIMES, 0, ACCELERATION_ONE},
+    {0x6332, TIME_RECORD, U32, READ_WRITE, LOCK_IN_ACTIVE, TIMES, 0, ACCELERATION_POSITIVE},
+    {0x6333, TIME_RECORD, U32, READ_WRITE, LOCK_IN_ACTIVE, TIMES, 0, ACCELERATION_NEGATIVE},
+    {0x6334, TIME_RECORD, U32, READ_WRITE, LOCK_IN_ACTIVE, TIMES, 0, DECELERATION_ONE},
+    {0x6335, TIME_RECORD, U32, READ_WRITE, LOCK_IN_ACTIVE, TIMES, 0, DECELERATION_POSITIVE},
+    {0x6336, TIME_RECORD, U32, READ_WRITE, LOCK_IN_ACTIVE, TIMES, 0, DECELERATION_NEGATIVE},
+    {0x6342, VARIABLE, I8, READ_WRITE, LOCK_IN_ACTIVE, 0, 1, 0, DEAD_BAND_TYPE},
+    {0x6343, RECORD, I16, READ_WRITE, LOCK_IN_ACTIVE, 0, 4096, 0, DEAD_BAND_A_SIDE},
+    {0x6344, RECORD, I16, READ_WRITE, LOCK_IN_ACTIVE, 0, 4096, 0, DEAD_BAND_B_SIDE},
+    {0x6345, RECORD, I16, READ_WRITE, LOCK_IN_ACTIVE, 0, 16384, 0, DEAD_BAND_THRESHOLD},
+    {0x6360, VARIABLE, I8, READ_WRITE, LOCK_IN_ACTIVE, 0, 2, 0, SHOWN_DITHER_TYPE},
+    {0x6361, RECORD, U16, READ_WRITE, LOCK_IN_ACTIVE, 0, 1024, 0, SHOWN_DITHER_AMPLITUDE},
+    {0x6362, RECORD, U16, READ_WRITE, LOCK_IN_ACTIVE, 0, 250, 0, SHOWN_DITHER_FREQUENCY},
 };
 
 enum {
@@ -65,12 +66,31 @@ enum {
 /* What subs 2 and 3 of a time record say: seconds, milli (-3 as one byte). */
 enum { UNIT_SECOND = 0x03, PREFIX_MILLI = 0xfd };
 
-const struct object *object_find(uint16_t index)
+/* An index of the pressure block is sought as that of its counterpart. */
+struct found object_find(uint16_t index)
 {
+    enum { FIRST_OF_PRESSURE = 0x6380, LAST_OF_PRESSURE = 0x63c5 };
+    enum block_kind block = POSITION_BLOCK;
+    if (index >= FIRST_OF_PRESSURE && index <= LAST_OF_PRESSURE) {
+        block = PRESSURE_BLOCK;
+        index -= BLOCK_OFFSET;
+    }
     for (size_t row = 0; row < OBJECTS; row++)
         if (objects[row].index == index)
-            return &objects[row];
-    return NULL;
+            return (struct found){&objects[row], block};
+    return (struct found){NULL, block};
+}
+
+uint16_t object_index(struct found found)
+{
+    return (uint16_t)(found.object->index + (found.block == PRESSURE_BLOCK ? BLOCK_OFFSET : 0));
+}
+
+struct found object_at(size_t place)
+{
+    if (place < OBJECTS)
+        return (struct found){&objects[place], POSITION_BLOCK};
+    return (struct found){&objects[FIRST_BLOCK_ROW + place - OBJECTS], PRESSURE_BLOCK};
 }
 
 const struct object *object_of_setting(size_t place)
@@ -87,6 +107,7 @@ size_t object_size(const struct object *object)
 {
     switch (object->type) {
     case I8:
+    case U8:
         return 1;
     case U32:
         return 4;
@@ -171,9 +192,12 @@ enum control_bit {
 
 struct device device_fresh(void)
 {
-    struct device device = {.state = DISABLED};
-    for (size_t place = 0; place < SETTINGS; place++)
-        device.setting[place] = object_of_setting(place)->fresh;
+    struct device device = {.state = DISABLED, .selected = POSITION_BLOCK};
+    for (size_t place = 0; place < SETTINGS; place++) {
+        int64_t fresh = object_of_setting(place)->fresh;
+        device.block[POSITION_BLOCK].setting[place] = fresh;
+        device.block[PRESSURE_BLOCK].setting[place] = fresh;
+    }
     for (size_t place = 0; place < DITHER_VALUES; place++)
         device.dither[place] = object_of_dither(place)->fresh;
     return device;
@@ -182,6 +206,17 @@ struct device device_fresh(void)
 static bool is_idle(const struct device *device)
 {
     return device->state == DISABLED || device->state == FAULT;
+}
+
+/* The block that position, target, command, ticks to go and status word speak of. */
+static const struct block *selected_block(const struct device *device)
+{
+    return &device->block[device->selected];
+}
+
+enum block_kind other_block(enum block_kind block)
+{
+    return block == POSITION_BLOCK ? PRESSURE_BLOCK : POSITION_BLOCK;
 }
 
 /* Reset is an edge: `before` is the word stored until now. */
@@ -209,7 +244,7 @@ static void enter(struct device *device, uint8_t state, uint16_t error_code)
     device->state = state;
     device->error_code = error_code;
     if (is_idle(device)) {
-        device->position = 0;
+        device->block[device->selected].position = 0; /* the other's is 0 */
         device->phase = 0;
     }
 }
@@ -245,8 +280,9 @@ enum number device_fault(struct device *device, uint16_t code)
 
 static int64_t target_in_ir(const struct device *device)
 {
-    const int64_t *setting = device->setting;
-    int64_t input = device->state == ACTIVE ? device->set_point : setting[HOLD_SET_POINT];
+    const struct block *block = selected_block(device);
+    const int64_t *setting = block->setting;
+    int64_t input = device->state == ACTIVE ? block->set_point : setting[HOLD_SET_POINT];
     int64_t limited = clamp(input, setting[LOWER_LIMIT], setting[UPPER_LIMIT]);
     int64_t scaled = limited * setting[SCALING_FACTOR] / 65536; /* C drops the fraction */
     int64_t corrected = scaled + setting[SCALING_OFFSET] + setting[ZERO_CORRECTION];
@@ -263,7 +299,7 @@ static uint16_t status_word(const struct device *device)
     static const uint16_t word_of_state[STATES] = {8, 9, 15, 0};
     enum { AT_TARGET = 256 };
     uint16_t word = word_of_state[device->state];
-    if (!is_idle(device) && device->position == target_position(device))
+    if (!is_idle(device) && selected_block(device)->position == target_position(device))
         word |= AT_TARGET;
     return word;
 }
@@ -279,12 +315,10 @@ static uint64_t phase_per_tick(const struct device *device)
     return (frequency << 32) / 1000;
 }
 
-/* The phase advances whatever the type is. It runs over its end: the remainder of 2^32 stays.
- * The product is below 2^62, as no tick is more than 2^30. */
+/* In HOLD and ACTIVE the phase advances, whatever the type is. It runs over its end: the remainder
+ * of 2^32 stays. The product is below 2^62, as no tick is more than 2^30. */
 static uint32_t phase_after_ticks(const struct device *device, uint32_t ticks)
 {
-    if (is_idle(device))
-        return 0;
     return (uint32_t)(device->phase + ticks * phase_per_tick(device));
 }
 
@@ -346,9 +380,9 @@ static bool signs_opposite(int64_t a, int64_t b)
 
 /* Whether a ramp halts at zero on its way to the other side. By wish 3 of document 02
  * type 1 has one rate and goes straight on. */
-static bool halts_at_zero(const struct device *device, int64_t from, int64_t target)
+static bool halts_at_zero(const struct block *block, int64_t from, int64_t target)
 {
-    int64_t type = device->setting[RAMP_TYPE];
+    int64_t type = block->setting[RAMP_TYPE];
     bool may_halt = type == RAMP_TWO_TIMES || type == RAMP_FOUR_TIMES;
     return may_halt && signs_opposite(from, target);
 }
@@ -356,24 +390,23 @@ static bool halts_at_zero(const struct device *device, int64_t from, int64_t tar
 /* The step on a way without a halt. In type 1 there is one step; in types 2 and 3 such a
  * way lies on one side of zero: away from zero the step is the acceleration of the side it
  * leads to, else the deceleration of its own. */
-static int64_t step_on_way(const struct device *device, int64_t from, int64_t to)
+static int64_t step_on_way(const struct block *block, int64_t from, int64_t to)
 {
     bool away = magnitude(to) > magnitude(from);
     bool positive = away ? to > 0 : from > 0;
-    enum setting place = time_of(device->setting[RAMP_TYPE], away, positive);
-    int64_t time = device->setting[place];
+    enum setting place = time_of(block->setting[RAMP_TYPE], away, positive);
+    int64_t time = block->setting[place];
     return FULL_POSITION / (time == 0 ? 1 : time);
 }
 
-static int64_t position_after_tick(const struct device *device)
+static int64_t position_after_tick(const struct block *block, int64_t target)
 {
-    int64_t from = device->position;
-    int64_t target = target_position(device);
-    if (device->setting[RAMP_TYPE] == RAMP_NONE)
+    int64_t from = block->position;
+    if (block->setting[RAMP_TYPE] == RAMP_NONE)
         return target;
 
-    int64_t to = halts_at_zero(device, from, target) ? 0 : target;
-    int64_t step = step_on_way(device, from, to);
+    int64_t to = halts_at_zero(block, from, target) ? 0 : target;
+    int64_t step = step_on_way(block, from, to);
     if (magnitude(to - from) <= step)
         return to;
     return to > from ? from + step : from - step;
@@ -384,65 +417,74 @@ enum number device_tick(struct device *device)
     if (!device_sound(device))
         return STATE_NOT_SOUND;
     if (!is_idle(device)) {
-        device->position = (int32_t)position_after_tick(device);
+        struct block *block = &device->block[device->selected];
+        block->position = (int32_t)position_after_tick(block, target_position(device));
         device->phase = phase_after_ticks(device, 1);
     }
     return DONE;
 }
 
 /* Distance over the step, rounded up, on a way without a halt. */
-static int64_t ticks_on_way(const struct device *device, int64_t from, int64_t to)
+static int64_t ticks_on_way(const struct block *block, int64_t from, int64_t to)
 {
-    int64_t step = step_on_way(device, from, to);
+    int64_t step = step_on_way(block, from, to);
     return (magnitude(to - from) + step - 1) / step;
+}
+
+/* In HOLD and ACTIVE. */
+static int64_t ticks_to_target(const struct block *block, int64_t target)
+{
+    int64_t from = block->position;
+    if (from == target)
+        return 0;
+    if (block->setting[RAMP_TYPE] == RAMP_NONE)
+        return 1;
+    if (halts_at_zero(block, from, target))
+        return ticks_on_way(block, from, 0) + ticks_on_way(block, 0, target);
+    return ticks_on_way(block, from, target);
 }
 
 static int64_t ticks_to_go(const struct device *device)
 {
-    int64_t from = device->position;
-    int64_t target = target_position(device);
-    if (is_idle(device) || from == target)
+    if (is_idle(device))
         return 0;
-    if (device->setting[RAMP_TYPE] == RAMP_NONE)
-        return 1;
-    if (halts_at_zero(device, from, target))
-        return ticks_on_way(device, from, 0) + ticks_on_way(device, 0, target);
-    return ticks_on_way(device, from, target);
+    return ticks_to_target(selected_block(device), target_position(device));
 }
 
 /* So many steps from here toward there; the caller knows it stays short of it. */
-static int64_t steps_toward(const struct device *device, int64_t ticks, int64_t from, int64_t to)
+static int64_t steps_toward(const struct block *block, int64_t ticks, int64_t from, int64_t to)
 {
-    int64_t way = ticks * step_on_way(device, from, to);
+    int64_t way = ticks * step_on_way(block, from, to);
     return to > from ? from + way : from - way;
 }
 
-/* The closed formula: no loop over the ticks. */
-static int64_t position_after_ticks(const struct device *device, int64_t ticks)
+/* The closed formula in HOLD and ACTIVE: no loop over the ticks. */
+static int64_t position_after_ticks(const struct block *block, int64_t ticks, int64_t target)
 {
-    int64_t from = device->position;
-    int64_t target = target_position(device);
-    if (is_idle(device))
-        return 0;
+    int64_t from = block->position;
     if (ticks == 0)
         return from;
-    if (ticks >= ticks_to_go(device))
+    if (ticks >= ticks_to_target(block, target))
         return target;
-    if (!halts_at_zero(device, from, target))
-        return steps_toward(device, ticks, from, target);
+    if (!halts_at_zero(block, from, target))
+        return steps_toward(block, ticks, from, target);
 
-    int64_t ticks_to_zero = ticks_on_way(device, from, 0);
+    int64_t ticks_to_zero = ticks_on_way(block, from, 0);
     if (ticks < ticks_to_zero)
-        return steps_toward(device, ticks, from, 0);
-    return steps_toward(device, ticks - ticks_to_zero, 0, target);
+        return steps_toward(block, ticks, from, 0);
+    return steps_toward(block, ticks - ticks_to_zero, 0, target);
 }
 
+/* In DISABLED and FAULT position and phase are 0 and stay so. */
 enum number device_jump(struct device *device, uint32_t ticks)
 {
     if (!device_sound(device))
         return STATE_NOT_SOUND;
-    device->position = (int32_t)position_after_ticks(device, ticks);
-    device->phase = phase_after_ticks(device, ticks);
+    if (!is_idle(device)) {
+        struct block *block = &device->block[device->selected];
+        block->position = (int32_t)position_after_ticks(block, ticks, target_position(device));
+        device->phase = phase_after_ticks(device, ticks);
+    }
     return DONE;
 }
 
@@ -450,9 +492,9 @@ enum number device_jump(struct device *device, uint32_t ticks)
 
 enum dead_band_type { DEAD_BAND_NONE, DEAD_BAND_JUMP };
 
-static int64_t with_dead_band(const struct device *device, int64_t r)
+static int64_t with_dead_band(const struct block *block, int64_t r)
 {
-    const int64_t *setting = device->setting;
+    const int64_t *setting = block->setting;
     if (setting[DEAD_BAND_TYPE] == DEAD_BAND_NONE)
         return r;
     if (r > setting[DEAD_BAND_THRESHOLD])
@@ -462,13 +504,14 @@ static int64_t with_dead_band(const struct device *device, int64_t r)
     return 0;
 }
 
-/* Within the dead band it is the dither alone. */
+/* The selected block drives it. Within the dead band it is the dither alone. */
 static int64_t command(const struct device *device)
 {
     if (is_idle(device))
         return 0;
-    int64_t r = device->position / PER_IR; /* toward zero */
-    return clamp(with_dead_band(device, r) + dither(device), -FULL_STROKE, FULL_STROKE);
+    const struct block *block = selected_block(device);
+    int64_t r = block->position / PER_IR; /* toward zero */
+    return clamp(with_dead_band(block, r) + dither(device), -FULL_STROKE, FULL_STROKE);
 }
 
 /* ---- SDO ---- */
@@ -478,10 +521,15 @@ static enum map_kind map_kind_of(const struct object *object)
     return object->value == RECEIVE_MAPPING ? RECEIVE_MAP : TRANSMIT_MAP;
 }
 
-static int64_t shown_value(const struct device *device, const struct object *object, uint8_t sub)
+/* The command of the block that is not selected is 0. */
+static int64_t shown_value(const struct device *device, struct found found, uint8_t sub)
 {
+    const struct object *object = found.object;
+    const struct block *block = &device->block[found.block];
     const struct map *map = &device->map[map_kind_of(object)];
     switch (object->value) {
+    case SELECTION:
+        return device->selected;
     case CONTROL_WORD:
         return device->control_word;
     case STATUS_WORD:
@@ -489,9 +537,9 @@ static int64_t shown_value(const struct device *device, const struct object *obj
     case ERROR_CODE:
         return device->error_code;
     case SET_POINT:
-        return device->set_point;
+        return block->set_point;
     case COMMAND:
-        return command(device);
+        return found.block == device->selected ? command(device) : 0;
     case RECEIVE_MAPPING:
     case TRANSMIT_MAPPING:
         return sub == 0 ? map->count : map->entry[sub - 1];
@@ -500,20 +548,24 @@ static int64_t shown_value(const struct device *device, const struct object *obj
     case SHOWN_DITHER_FREQUENCY:
         return device->dither[object->value - SHOWN_DITHER_TYPE];
     default:
-        return device->setting[object->value];
+        return block->setting[object->value];
     }
 }
 
-static void take_value(struct device *device, const struct object *object, uint8_t sub,
-                       int64_t value)
+static void take_value(struct device *device, struct found found, uint8_t sub, int64_t value)
 {
+    const struct object *object = found.object;
+    struct block *block = &device->block[found.block];
     struct map *map = &device->map[map_kind_of(object)];
     switch (object->value) {
+    case SELECTION:
+        device->selected = (uint8_t)value;
+        break;
     case CONTROL_WORD:
         accept_control_word(device, (uint16_t)value);
         break;
     case SET_POINT:
-        device->set_point = (int32_t)value;
+        block->set_point = (int32_t)value;
         break;
     case RECEIVE_MAPPING:
     case TRANSMIT_MAPPING:
@@ -528,7 +580,7 @@ static void take_value(struct device *device, const struct object *object, uint8
         device->dither[object->value - SHOWN_DITHER_TYPE] = value;
         break;
     default:
-        device->setting[object->value] = value;
+        block->setting[object->value] = value;
     }
 }
 
@@ -545,13 +597,13 @@ static uint8_t shown_byte(const struct object *object, uint8_t sub)
     }
 }
 
-static void read_entry(const struct device *device, const struct object *object, uint8_t sub,
+static void read_entry(const struct device *device, struct found found, uint8_t sub,
                        uint8_t *reply)
 {
-    size_t size = object_entry_size(object, sub);
-    uint32_t value = shown_byte(object, sub);
-    if (is_value_sub(object, sub))
-        value = (uint32_t)shown_value(device, object, sub);
+    size_t size = object_entry_size(found.object, sub);
+    uint32_t value = shown_byte(found.object, sub);
+    if (is_value_sub(found.object, sub))
+        value = (uint32_t)shown_value(device, found, sub);
     reply[0] = size == 1 ? READ_1 : size == 2 ? READ_2 : READ_4;
     number_to_bytes(value, &reply[4], size);
 }
@@ -572,13 +624,21 @@ static enum abort_code range_abort(const struct object *object, int64_t value)
     return value > object->high ? ABORT_TOO_HIGH : ABORT_TOO_LOW;
 }
 
-static bool crosses_limits(const struct device *device, const struct object *object, int64_t value)
+/* The limits of the block that is written, whichever is selected. */
+static bool crosses_limits(const struct block *block, const struct object *object, int64_t value)
 {
     if (object->value == UPPER_LIMIT)
-        return value < device->setting[LOWER_LIMIT];
+        return value < block->setting[LOWER_LIMIT];
     if (object->value == LOWER_LIMIT)
-        return device->setting[UPPER_LIMIT] < value;
+        return block->setting[UPPER_LIMIT] < value;
     return false;
+}
+
+static bool is_locked(const struct object *object, uint8_t state)
+{
+    if (object->lock == LOCK_IN_ACTIVE)
+        return state == ACTIVE;
+    return object->lock == LOCK_OUTSIDE_DISABLED && state != DISABLED;
 }
 
 /* An entry is index * 65536 + sub-index * 256 + length in bits. */
@@ -608,7 +668,7 @@ static bool is_mappable(enum map_kind kind, uint32_t entry)
     for (size_t i = 0; i < MAPPABLE; i++) {
         if (mapped_index(entry) != indexes[kind][i])
             continue;
-        const struct object *object = object_find(indexes[kind][i]);
+        const struct object *object = object_find(indexes[kind][i]).object;
         return is_value_sub(object, mapped_sub(entry)) &&
                mapped_bits(entry) == 8 * object_size(object);
     }
@@ -665,9 +725,10 @@ static int64_t entry_value(const struct object *object, uint8_t sub, const uint8
 }
 
 /* Aborts 4 to 8 and those of maps in their order, then the write itself. */
-static enum abort_code write_entry(struct device *device, const struct object *object, uint8_t sub,
+static enum abort_code write_entry(struct device *device, struct found found, uint8_t sub,
                                    size_t size, const uint8_t *data)
 {
+    const struct object *object = found.object;
     if (object->access == READ_ONLY || !is_value_sub(object, sub))
         return ABORT_READ_ONLY;
     /* Place 5, by wish 1 of document 02: which way the length is wrong. */
@@ -679,14 +740,14 @@ static enum abort_code write_entry(struct device *device, const struct object *o
     enum abort_code code = range_abort(object, value);
     if (code != NO_ABORT)
         return code;
-    if (crosses_limits(device, object, value))
+    if (crosses_limits(&device->block[found.block], object, value))
         return ABORT_LIMITS;
-    if (object->locked && device->state == ACTIVE)
+    if (is_locked(object, device->state))
         return ABORT_LOCKED;
     if (object->form == MAP_RECORD)
         code = map_abort(device, object, sub, value);
     if (code == NO_ABORT)
-        take_value(device, object, sub, value);
+        take_value(device, found, sub, value);
     return code;
 }
 
@@ -698,17 +759,17 @@ static enum abort_code serve(struct device *device, const uint8_t *request, uint
     size_t size = write_size(command_byte);
     if (command_byte != READ && size == 0)
         return ABORT_COMMAND;
-    const struct object *object = object_find((uint16_t)bytes_to_number(&request[1], 2));
-    if (object == NULL)
+    struct found found = object_find((uint16_t)bytes_to_number(&request[1], 2));
+    if (found.object == NULL)
         return ABORT_NO_OBJECT;
-    if (sub > object_top_sub(object))
+    if (sub > object_top_sub(found.object))
         return ABORT_NO_SUB_INDEX;
     if (command_byte == READ) {
-        read_entry(device, object, sub, reply);
+        read_entry(device, found, sub, reply);
         return NO_ABORT;
     }
     reply[0] = WRITTEN;
-    return write_entry(device, object, sub, size, &request[4]);
+    return write_entry(device, found, sub, size, &request[4]);
 }
 
 enum number device_sdo(struct device *device, const uint8_t *request, size_t request_size,
@@ -761,8 +822,8 @@ enum number device_receive(struct device *device, const uint8_t *pdo, size_t siz
         return PDO_SHORT;
     for (size_t i = 0; i < map->count; i++) {
         uint32_t entry = map->entry[i];
-        const struct object *object = object_find(mapped_index(entry));
-        write_entry(device, object, mapped_sub(entry), mapped_size(entry), pdo);
+        struct found found = object_find(mapped_index(entry));
+        write_entry(device, found, mapped_sub(entry), mapped_size(entry), pdo);
         pdo += mapped_size(entry);
     }
     return DONE;
@@ -777,8 +838,8 @@ struct sent device_send(const struct device *device, uint8_t *pdo, size_t room)
         return (struct sent){ROOM_SHORT, 0};
     for (size_t i = 0; i < map->count; i++) {
         uint32_t entry = map->entry[i];
-        const struct object *object = object_find(mapped_index(entry));
-        int64_t value = shown_value(device, object, mapped_sub(entry));
+        struct found found = object_find(mapped_index(entry));
+        int64_t value = shown_value(device, found, mapped_sub(entry));
         number_to_bytes((uint32_t)value, pdo, mapped_size(entry));
         pdo += mapped_size(entry);
     }
@@ -787,18 +848,20 @@ struct sent device_send(const struct device *device, uint8_t *pdo, size_t room)
 
 /* ---- Stored image ---- */
 
+/* It is of the position block, whichever is selected. */
 enum number device_store(const struct device *device, uint8_t *image, size_t room)
 {
     if (!device_sound(device))
         return STATE_NOT_SOUND;
     if (room < IMAGE_SIZE)
         return IMAGE_ROOM_UNDER_97;
+    const int64_t *setting = device->block[POSITION_BLOCK].setting;
     uint8_t *field = image;
     for (size_t place = 0; place < SETTINGS; place++) {
         size_t size = object_size(object_of_setting(place));
         field[0] = (uint8_t)(place + 1);
         number_to_bytes((uint32_t)size, &field[1], 2);
-        number_to_bytes((uint32_t)device->setting[place], &field[FIELD_HEAD], size);
+        number_to_bytes((uint32_t)setting[place], &field[FIELD_HEAD], size);
         field += FIELD_HEAD + size;
     }
     return DONE;
@@ -845,7 +908,7 @@ enum number device_load(struct device *device, const uint8_t *image, size_t size
     }
     if (!settings_sound(loaded))
         return IMAGE_VALUE_OUT_OF_RANGE;
-    memcpy(device->setting, loaded, sizeof loaded);
+    memcpy(device->block[POSITION_BLOCK].setting, loaded, sizeof loaded);
     return DONE;
 }
 
@@ -887,20 +950,34 @@ static bool dither_sound(const struct device *device)
     return !is_idle(device) || device->phase == 0;
 }
 
+/* Whatever its position. */
+static bool block_sound(const struct block *block)
+{
+    if (block->set_point < INT16_MIN || block->set_point > INT16_MAX)
+        return false;
+    return settings_sound(block->setting);
+}
+
+static bool positions_sound(const struct device *device)
+{
+    int32_t position = selected_block(device)->position;
+    int32_t other = device->block[other_block(device->selected)].position;
+    if (position < -FULL_POSITION || position > FULL_POSITION || other != 0)
+        return false;
+    return !is_idle(device) || position == 0;
+}
+
 bool device_sound(const struct device *device)
 {
-    if (device->state >= STATES || !settings_sound(device->setting))
+    if (device->state >= STATES || device->selected >= BLOCKS)
+        return false;
+    if (!block_sound(&device->block[POSITION_BLOCK]) ||
+        !block_sound(&device->block[PRESSURE_BLOCK]) || !positions_sound(device))
         return false;
     if (!map_sound(RECEIVE_MAP, &device->map[RECEIVE_MAP]) ||
         !map_sound(TRANSMIT_MAP, &device->map[TRANSMIT_MAP]))
         return false;
     if (!dither_sound(device))
-        return false;
-    if (device->set_point < INT16_MIN || device->set_point > INT16_MAX)
-        return false;
-    if (device->position < -FULL_POSITION || device->position > FULL_POSITION)
-        return false;
-    if (is_idle(device) && device->position != 0)
         return false;
     return (device->error_code != 0) == (device->state == FAULT);
 }
@@ -910,12 +987,19 @@ static bool maps_equal(const struct map *a, const struct map *b)
     return a->count == b->count && memcmp(a->entry, b->entry, sizeof a->entry) == 0;
 }
 
+bool block_equal(const struct block *a, const struct block *b)
+{
+    return a->set_point == b->set_point && a->position == b->position &&
+           memcmp(a->setting, b->setting, sizeof a->setting) == 0;
+}
+
 bool device_equal(const struct device *a, const struct device *b)
 {
-    return a->state == b->state && a->control_word == b->control_word &&
-           a->error_code == b->error_code && a->set_point == b->set_point &&
-           a->position == b->position && a->phase == b->phase &&
-           memcmp(a->setting, b->setting, sizeof a->setting) == 0 &&
+    return a->state == b->state && a->selected == b->selected &&
+           a->control_word == b->control_word && a->error_code == b->error_code &&
+           a->phase == b->phase &&
+           block_equal(&a->block[POSITION_BLOCK], &b->block[POSITION_BLOCK]) &&
+           block_equal(&a->block[PRESSURE_BLOCK], &b->block[PRESSURE_BLOCK]) &&
            memcmp(a->dither, b->dither, sizeof a->dither) == 0 &&
            maps_equal(&a->map[RECEIVE_MAP], &b->map[RECEIVE_MAP]) &&
            maps_equal(&a->map[TRANSMIT_MAP], &b->map[TRANSMIT_MAP]);
@@ -931,7 +1015,7 @@ static int64_t asked_value(const struct device *device, enum query query)
     case QUERY_ERROR:
         return device->error_code;
     case QUERY_POSITION:
-        return device->position;
+        return selected_block(device)->position;
     case QUERY_TARGET:
         return target_in_ir(device);
     case QUERY_COMMAND:

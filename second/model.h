@@ -1,4 +1,4 @@
-/* The device of document 01, with wishes 1 to 4 of document 02: what the other files may know
+/* The device of document 01, with wishes 1 to 6 of document 02: what the other files may know
  * of it. */
 #ifndef SECOND_MODEL_H
 #define SECOND_MODEL_H
@@ -16,7 +16,11 @@ enum {
 
 enum device_state { DISABLED, HOLD, ACTIVE, FAULT, STATES };
 
-/* The 17 stored settings by place. The tag of a setting is its place plus one. */
+/* The two blocks have the same settings and rules. One is selected and drives the command. */
+enum block_kind { POSITION_BLOCK, PRESSURE_BLOCK, BLOCKS };
+
+/* The 17 settings of a block by place. Those of the position block are stored: the tag of a
+ * setting is its place plus one. */
 enum setting {
     HOLD_SET_POINT,
     UPPER_LIMIT,
@@ -53,14 +57,19 @@ struct map {
 
 /* Settings and the dither's values are 64 bits wide, so that one type holds I8, I16, U16 and U32
  * alike and a value outside its range can be written down and found unsound. The set point is
- * wider than its I16 for the same reason. */
-struct device {
-    uint8_t state;
-    uint16_t control_word;
-    uint16_t error_code;
+ * wider than its I16 for the same reason, and the selection is a number and no truth value. */
+struct block {
     int32_t set_point;
     int32_t position;
     int64_t setting[SETTINGS];
+};
+
+struct device {
+    uint8_t state;
+    uint8_t selected; /* the block that drives the command; the other's position is 0 */
+    uint16_t control_word;
+    uint16_t error_code;
+    struct block block[BLOCKS];
     struct map map[MAPS];
     int64_t dither[DITHER_VALUES];
     uint32_t phase; /* of the dither; it runs over its end on purpose */
@@ -85,15 +94,17 @@ enum number {
 
 /* Objects. */
 enum object_form { VARIABLE, RECORD, TIME_RECORD, MAP_RECORD };
-enum object_type { I8, I16, U16, U32 };
+enum object_type { I8, U8, I16, U16, U32 };
 enum object_access { READ_ONLY, READ_WRITE };
+enum object_lock { NO_LOCK, LOCK_IN_ACTIVE, LOCK_OUTSIDE_DISABLED };
 
-/* What an object shows: one of the settings, or one of these. */
+/* What an object shows: one of its block's settings, or one of these. */
 enum {
-    CONTROL_WORD = SETTINGS,
+    SELECTION = SETTINGS,
+    CONTROL_WORD,
     STATUS_WORD,
     ERROR_CODE,
-    SET_POINT,
+    SET_POINT, /* of its block, as is the command */
     COMMAND,
     RECEIVE_MAPPING,
     TRANSMIT_MAPPING,
@@ -107,17 +118,31 @@ struct object {
     uint8_t form;
     uint8_t type;
     uint8_t access;
-    bool locked; /* not to be written while ACTIVE */
+    uint8_t lock; /* in which states it is not to be written */
     int64_t low;
     int64_t high;
     int64_t fresh;
     uint8_t value; /* which value it shows */
 };
 
-enum { OBJECTS = 27 };
+/* The objects of a block stand once, under the index that the position block has them at: the
+ * pressure block has each of them 80h above. */
+enum { OBJECTS = 28, FIRST_BLOCK_ROW = 6, BLOCK_ROWS = 19, BLOCK_OFFSET = 0x80 };
 extern const struct object objects[OBJECTS];
 
-const struct object *object_find(uint16_t index);
+/* What an index names. */
+struct found {
+    const struct object *object; /* NULL where there is none */
+    enum block_kind block;       /* whose object it is, where it is one of a block */
+};
+
+struct found object_find(uint16_t index);
+uint16_t object_index(struct found found);
+
+/* Every object that there is: the rows, and then once more those of the pressure block. */
+enum { ALL_OBJECTS = OBJECTS + BLOCK_ROWS };
+struct found object_at(size_t place);
+
 const struct object *object_of_setting(size_t place);
 const struct object *object_of_dither(size_t place);
 size_t object_size(const struct object *object); /* of its value, in bytes */
@@ -189,6 +214,8 @@ struct answer {
 struct device device_fresh(void);
 bool device_sound(const struct device *device);
 bool device_equal(const struct device *a, const struct device *b);
+bool block_equal(const struct block *a, const struct block *b);
+enum block_kind other_block(enum block_kind block);
 
 /* Each of these changes the device and the buffer only when it gives DONE. */
 enum number device_control(struct device *device, uint16_t word);

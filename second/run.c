@@ -169,25 +169,31 @@ static bool is_still(const struct device *device)
     return device->state == DISABLED || device->state == FAULT;
 }
 
+static void cross_limits(struct block *block)
+{
+    block->setting[UPPER_LIMIT] = -1;
+    block->setting[LOWER_LIMIT] = 0;
+}
+
 static struct device unsound_device(struct device device, const struct record *record)
 {
     enum { BEYOND_STROKE = FULL_POSITION + 1, BELOW_EVERY_RANGE = -40000 };
+    struct block *block = &device.block[device.selected];
     switch (record->small) {
     case UNSOUND_ERROR_CODE:
         device.error_code = device.state == FAULT ? 0 : 1;
         break;
     case UNSOUND_POSITION:
-        device.position = BEYOND_STROKE;
+        block->position = BEYOND_STROKE;
         break;
     case UNSOUND_SETTING:
-        device.setting[record->word % SETTINGS] = BELOW_EVERY_RANGE;
+        block->setting[record->word % SETTINGS] = BELOW_EVERY_RANGE;
         break;
     case UNSOUND_LIMITS:
-        device.setting[UPPER_LIMIT] = -1;
-        device.setting[LOWER_LIMIT] = 0;
+        cross_limits(block);
         break;
     case UNSOUND_POSITION_BY_STATE:
-        device.position = is_still(&device) ? 1 : BEYOND_STROKE;
+        block->position = is_still(&device) ? 1 : BEYOND_STROKE;
         break;
     default:
         device.state = STATES;
@@ -256,50 +262,84 @@ static struct device with_broken_phase(struct device device, const struct record
     bool fault = record->small == BROKEN_PHASE_IN_FAULT;
     device.state = fault ? FAULT : DISABLED;
     device.error_code = fault ? 1 : 0;
-    device.position = 0;
+    device.block[device.selected].position = 0;
     device.phase = fault ? UINT32_MAX : 1;
+    return device;
+}
+
+/* A value of either block; the way is that of the selected one. */
+static void break_value(struct block *block, int way, size_t place)
+{
+    if (way == BROKEN_SET_POINT_ABOVE)
+        block->set_point = INT16_MAX + 1;
+    else if (way == BROKEN_SET_POINT_BELOW)
+        block->set_point = INT16_MIN - 1;
+    else
+        block->setting[place] = value_beyond(object_of_setting(place), way);
+}
+
+static struct device with_broken_block(struct device device, const struct record *record)
+{
+    enum { BELOW_STROKE = -FULL_POSITION - 1 };
+    struct block *block = &device.block[device.selected];
+    switch (record->small) {
+    case BROKEN_POSITION:
+        block->position = BELOW_STROKE;
+        break;
+    case BROKEN_POSITION_BY_STATE:
+        block->position = is_still(&device) ? -1 : BELOW_STROKE;
+        break;
+    default:
+        break_value(block, record->small, record->word % SETTINGS);
+    }
+    return device;
+}
+
+/* The block that is not selected. */
+static struct device with_broken_other(struct device device, const struct record *record)
+{
+    static const int way_of_selected[BROKEN_KINDS] = {
+        [BROKEN_OTHER_SETTING_ABOVE] = BROKEN_SETTING_ABOVE,
+        [BROKEN_OTHER_SETTING_BELOW] = BROKEN_SETTING_BELOW,
+        [BROKEN_OTHER_SET_POINT_ABOVE] = BROKEN_SET_POINT_ABOVE,
+        [BROKEN_OTHER_SET_POINT_BELOW] = BROKEN_SET_POINT_BELOW,
+    };
+    struct block *block = &device.block[other_block(device.selected)];
+    switch (record->small) {
+    case BROKEN_OTHER_POSITION_1:
+        block->position = 1;
+        break;
+    case BROKEN_OTHER_POSITION_MINUS_1:
+        block->position = -1;
+        break;
+    case BROKEN_OTHER_LIMITS:
+        cross_limits(block);
+        break;
+    default:
+        break_value(block, way_of_selected[record->small], record->word % SETTINGS);
+    }
     return device;
 }
 
 static struct device broken_device(struct device device, const struct record *record)
 {
-    enum { BELOW_STROKE = -FULL_POSITION - 1, NO_STATE = 255 };
-    size_t place = record->word % SETTINGS;
-    switch (record->small) {
-    case BROKEN_SETTING_ABOVE:
-    case BROKEN_SETTING_BELOW:
-    case BROKEN_SETTING_MOST:
-    case BROKEN_SETTING_LEAST:
-        device.setting[place] = value_beyond(object_of_setting(place), record->small);
-        break;
-    case BROKEN_POSITION:
-        device.position = BELOW_STROKE;
-        break;
-    case BROKEN_POSITION_BY_STATE:
-        device.position = is_still(&device) ? -1 : BELOW_STROKE;
-        break;
-    case BROKEN_SET_POINT_ABOVE:
-        device.set_point = INT16_MAX + 1;
-        break;
-    case BROKEN_SET_POINT_BELOW:
-        device.set_point = INT16_MIN - 1;
-        break;
-    case BROKEN_MAP_COUNT_5:
-    case BROKEN_MAP_COUNT_255:
-    case BROKEN_MAP_ENTRY_OTHER:
-    case BROKEN_MAP_ENTRY_ZERO:
+    enum { NO_STATE = 255 };
+    if (record->small <= BROKEN_SET_POINT_BELOW)
+        return with_broken_block(device, record);
+    if (record->small <= BROKEN_MAP_ENTRY_ZERO)
         return with_broken_map(device, record);
-    case BROKEN_DITHER_ABOVE:
-    case BROKEN_DITHER_MINUS_1:
-    case BROKEN_DITHER_MOST:
-    case BROKEN_DITHER_LEAST:
+    if (record->small <= BROKEN_DITHER_LEAST)
         return with_broken_dither(device, record);
-    case BROKEN_PHASE_IN_DISABLED:
-    case BROKEN_PHASE_IN_FAULT:
+    if (record->small <= BROKEN_PHASE_IN_FAULT)
         return with_broken_phase(device, record);
-    default:
+    if (record->small == BROKEN_SELECTION_2)
+        device.selected = 2;
+    else if (record->small == BROKEN_SELECTION_255)
+        device.selected = 255;
+    else if (record->small <= BROKEN_OTHER_SET_POINT_BELOW)
+        return with_broken_other(device, record);
+    else
         device.state = NO_STATE;
-    }
     return device;
 }
 

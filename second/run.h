@@ -33,7 +33,8 @@ enum event_kind {
 /* What `small` of a load says. */
 enum load_kind { LOAD_AS_IT_IS, LOAD_CUT, LOAD_BYTE_REPLACED, LOAD_BYTE_MORE };
 
-/* What `small` of an unsound event says. */
+/* What `small` of an unsound event says. Position, setting and limits are those of the selected
+ * block. */
 enum unsound_kind {
     UNSOUND_STATE,
     UNSOUND_ERROR_CODE,
@@ -44,7 +45,8 @@ enum unsound_kind {
     UNSOUND_KINDS
 };
 
-/* What `small` of a broken event says. */
+/* What `small` of a broken event says. Setting, position and set point are those of the selected
+ * block. */
 enum broken_kind {
     BROKEN_SETTING_ABOVE, /* one above its range */
     BROKEN_SETTING_BELOW,
@@ -64,6 +66,15 @@ enum broken_kind {
     BROKEN_DITHER_LEAST,
     BROKEN_PHASE_IN_DISABLED,
     BROKEN_PHASE_IN_FAULT,
+    BROKEN_SELECTION_2,
+    BROKEN_SELECTION_255,
+    BROKEN_OTHER_POSITION_1, /* "other": of the block that is not selected */
+    BROKEN_OTHER_POSITION_MINUS_1,
+    BROKEN_OTHER_SETTING_ABOVE,
+    BROKEN_OTHER_SETTING_BELOW,
+    BROKEN_OTHER_LIMITS,
+    BROKEN_OTHER_SET_POINT_ABOVE,
+    BROKEN_OTHER_SET_POINT_BELOW,
     BROKEN_STATE, /* every higher number too */
     BROKEN_KINDS
 };

@@ -14,7 +14,7 @@ static const uint32_t quarter = UINT32_C(1) << 30;
 static void set_dither_value(struct maker *m, enum dither_value place, int64_t value)
 {
     if (m->run.device.dither[place] != value)
-        emit_write(m, object_of_dither(place), value);
+        emit_write(m, dither_object(place), value);
 }
 
 static void set_dither(struct maker *m, int64_t type, int64_t amplitude, int64_t frequency)
@@ -26,7 +26,7 @@ static void set_dither(struct maker *m, int64_t type, int64_t amplitude, int64_t
 
 static void set_setting(struct maker *m, enum setting place, int64_t value)
 {
-    if (m->run.device.setting[place] != value)
+    if (block_now(m)->setting[place] != value)
         emit_setting(m, place, value);
 }
 
@@ -54,7 +54,7 @@ static void tell_command(struct maker *m)
 {
     enum { READ_EACH = 5 };
     if (next_turn(m, SWEEP_DITHER_TELLS) % READ_EACH == 0)
-        emit_sdo(m, READ, 0x6310, 1, 0);
+        emit_value_read(m, command_now(m));
     else
         emit_plain(m, EVENT_QUERY);
 }
@@ -121,6 +121,7 @@ void scene_dither_corners(struct maker *m)
     int64_t amplitude = pick_amplitude(m);
     int64_t frequency = pick_odd_frequency(m);
     int64_t target = one_in(m, 2) ? between(m, 1, 15000) : between(m, -15000, -1);
+    select_by_chance(m);
     steer_to_hold(m);
     set_no_ramp(m);
     set_setting(m, DEAD_BAND_TYPE, 0);
@@ -191,14 +192,31 @@ static void play_stroke_ends(struct maker *m, const struct band *band)
     }
 }
 
-/* In turn both types, at the ends of the dead band and at those of the stroke. */
+/* The top and the bottom of the wave in ACTIVE without a dead band, each told by both. */
+static void play_without_band(struct maker *m)
+{
+    int64_t target = between(m, 1, 15000);
+    steer_to_hold(m);
+    set_setting(m, DEAD_BAND_TYPE, 0);
+    steer_to(m, ACTIVE);
+    emit_target(m, one_in(m, 2) ? target : -target);
+    for (int end = 0; end < 2; end++) {
+        emit_jump(m, 2);
+        emit_plain(m, EVENT_QUERY);
+        emit_value_read(m, command_now(m));
+    }
+}
+
+/* In turn both types, at the ends of the dead band and at those of the stroke, with each block. */
 void scene_dither_band(struct maker *m)
 {
+    enum { TYPES_AND_ENDS = 4 };
     uint32_t turn = next_turn(m, SWEEP_DITHER_BANDS);
     struct band band;
     band.threshold = between(m, 1, 2000);
     band.a_side = between(m, 1024, 4096);
     band.b_side = between(m, 1024, 4096);
+    select_by_turn(m, turn / TYPES_AND_ENDS);
     steer_to_disabled(m);
     set_no_ramp(m);
     set_setting(m, DEAD_BAND_TYPE, 1);
@@ -212,6 +230,8 @@ void scene_dither_band(struct maker *m)
         play_band_ends(m, &band);
     else
         play_stroke_ends(m, &band);
+    if (turn / 2 % 2 != 0)
+        play_without_band(m);
 }
 
 /* ---- The phase by ticks and jumps ---- */
@@ -348,7 +368,7 @@ static void rest(struct maker *m, uint32_t turn)
         emit_plain(m, EVENT_QUERY);
     } else if (turn % 3 == 1) {
         emit_word(m, EVENT_TICKS, (uint16_t)between(m, 1, 9));
-        emit_sdo(m, READ, 0x6310, 1, 0);
+        emit_value_read(m, command_now(m));
     } else {
         emit_jump(m, (uint32_t)draw(m));
         emit_word(m, EVENT_SEND, 2);
@@ -388,6 +408,7 @@ void scene_dither_moves(struct maker *m)
     enum way way = (enum way)(turn % WAYS);
     int64_t amplitude = between(m, 100, 1024); /* so that a triangle is seldom 0 */
     int64_t frequency = pick_odd_frequency(m);
+    select_block(m, POSITION_BLOCK); /* whose command is sent */
     steer_to_hold(m);
     set_dither(m, SQUARE, amplitude, frequency);
     map_words_and_command(m, way);
@@ -403,75 +424,66 @@ void scene_dither_moves(struct maker *m)
         lead_by(m, way, 0x0007);
     tick_and_send(m);
     steer_to(m, FAULT);
-    emit_write(m, object_of_dither(DITHER_TYPE), SQUARE);
+    emit_write(m, dither_object(DITHER_TYPE), SQUARE);
     rest(m, turn);
 }
 
 /* ---- The objects ---- */
 
-static void read_value(struct maker *m, const struct object *object)
-{
-    uint32_t ignored = (uint32_t)draw(m);
-    emit_sdo(m, READ, object->index, value_sub(object), ignored);
-}
-
-static void write_sized(struct maker *m, const struct object *object, uint8_t sub, size_t size,
-                        int64_t value)
-{
-    emit_sdo(m, write_command(size), object->index, sub, (uint32_t)value);
-}
-
 /* Both ends of the range, and a value beyond it with a wrong length. */
-static void access_in_disabled(struct maker *m, const struct object *object)
+static void access_in_disabled(struct maker *m, struct found found)
 {
-    emit_write(m, object, object->low);
-    emit_write(m, object, object->high);
-    write_sized(m, object, value_sub(object), 4, object->high + 1);
+    const struct object *object = found.object;
+    emit_write(m, found, object->low);
+    emit_write(m, found, object->high);
+    emit_sized_write(m, found, value_sub(object), 4, object->high + 1);
 }
 
 /* Sub-indexes that it lacks. */
-static void access_in_hold(struct maker *m, const struct object *object)
+static void access_in_hold(struct maker *m, struct found found)
 {
+    const struct object *object = found.object;
     const uint8_t subs[] = {(uint8_t)(value_sub(object) + 1), UINT8_MAX};
-    emit_write(m, object, object->high - 1);
+    emit_write(m, found, object->high - 1);
     for (size_t i = 0; i < sizeof subs; i++) {
-        emit_sdo(m, READ, object->index, subs[i], 0);
-        write_sized(m, object, subs[i], object_size(object), object->high + 1);
+        emit_read(m, found, subs[i]);
+        emit_sized_write(m, found, subs[i], object_size(object), object->high + 1);
     }
 }
 
 /* A value above 0 that stands and another one, each wrong length, and a record's number of
  * entries. */
-static void access_in_active(struct maker *m, const struct object *object, size_t place)
+static void access_in_active(struct maker *m, struct found found, size_t place)
 {
+    const struct object *object = found.object;
     if (m->run.device.dither[place] == 0) {
         steer_to_hold(m);
-        emit_write(m, object, between(m, 1, object->high));
+        emit_write(m, found, between(m, 1, object->high));
         steer_to(m, ACTIVE);
     }
     int64_t stands = m->run.device.dither[place];
-    emit_write(m, object, stands);
-    emit_write(m, object, stands - 1);
+    emit_write(m, found, stands);
+    emit_write(m, found, stands - 1);
     for (size_t size = 1; size <= 4; size++)
         if (size != object_size(object))
-            write_sized(m, object, value_sub(object), size, object->high);
+            emit_sized_write(m, found, value_sub(object), size, object->high);
     if (object->form == VARIABLE)
         return;
-    emit_sdo(m, READ, object->index, 0, 0);
-    write_sized(m, object, 0, 1, 1);
-    write_sized(m, object, 0, 2, object->high + 1);
+    emit_read(m, found, 0);
+    emit_sized_write(m, found, 0, 1, 1);
+    emit_sized_write(m, found, 0, 2, object->high + 1);
 }
 
 /* Values far beyond the range. */
-static void access_in_fault(struct maker *m, const struct object *object)
+static void access_in_fault(struct maker *m, struct found found)
 {
-    emit_write(m, object, object->low + 1);
-    emit_write(m, object, -1);
-    if (object->type == I8) {
-        emit_write(m, object, INT8_MAX);
-        emit_write(m, object, INT8_MIN);
+    emit_write(m, found, found.object->low + 1);
+    emit_write(m, found, -1);
+    if (found.object->type == I8) {
+        emit_write(m, found, INT8_MAX);
+        emit_write(m, found, INT8_MIN);
     } else {
-        emit_write(m, object, INT16_MAX + 1);
+        emit_write(m, found, INT16_MAX + 1);
     }
 }
 
@@ -480,19 +492,19 @@ void scene_dither_objects(struct maker *m)
 {
     uint32_t turn = next_turn(m, SWEEP_DITHER_OBJECTS);
     size_t place = turn % DITHER_VALUES;
-    const struct object *object = object_of_dither(place);
+    struct found found = dither_object(place);
     enum device_state state = (enum device_state)(turn / DITHER_VALUES % STATES);
     steer_to(m, state);
     if (state == DISABLED)
-        access_in_disabled(m, object);
+        access_in_disabled(m, found);
     else if (state == HOLD)
-        access_in_hold(m, object);
+        access_in_hold(m, found);
     else if (state == ACTIVE)
-        access_in_active(m, object, place);
+        access_in_active(m, found, place);
     else
-        access_in_fault(m, object);
-    emit_write(m, object, object->high + 1);
-    read_value(m, object);
+        access_in_fault(m, found);
+    emit_write(m, found, found.object->high + 1);
+    emit_value_read(m, found);
 }
 
 /* ---- Beside them ---- */
@@ -508,12 +520,12 @@ void scene_dither_beside(struct maker *m)
     steer_to_disabled(m);
     set_dither(m, SQUARE, amplitude, frequency);
     emit_word(m, EVENT_STORE, IMAGE_SIZE);
-    emit_setting(m, HOLD_SET_POINT, m->run.device.setting[HOLD_SET_POINT] == 0 ? 1 : 0);
-    struct record load = make(m, EVENT_LOAD);
-    load.small = LOAD_AS_IT_IS;
-    emit(m, &load);
+    struct found stored = setting_of(POSITION_BLOCK, HOLD_SET_POINT);
+    int64_t stands = m->run.device.block[POSITION_BLOCK].setting[HOLD_SET_POINT];
+    emit_write(m, stored, stands == 0 ? 1 : 0);
+    emit_load_as_it_is(m);
     for (size_t place = 0; place < DITHER_VALUES; place++)
-        read_value(m, object_of_dither(place));
+        emit_value_read(m, dither_object(place));
     for (size_t kind = 0; kind < MAPS; kind++) {
         emit_sdo(m, WRITE_1, map_indexes[kind], 0, 0);
         for (size_t i = 0; i < 3; i++)

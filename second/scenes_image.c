@@ -80,6 +80,14 @@ static void patch_anything(struct maker *m)
 
 /* ---- Damages of a full image; each gives the tag worth a search ---- */
 
+static void emit_find(struct maker *m, uint8_t tag, size_t size)
+{
+    struct record record = make(m, EVENT_FIND);
+    record.small = tag;
+    record.word = (uint16_t)size;
+    emit(m, &record);
+}
+
 static uint8_t damage_tag(struct maker *m)
 {
     static const uint8_t tags[] = {0, 18, 19, 128, 255};
@@ -119,14 +127,19 @@ static uint8_t damage_by_swapped_tags(struct maker *m)
     return tag_of(place);
 }
 
-/* Two neighbours become an empty field and a longer one: the walk stays whole. */
+/* Two neighbours become an empty field and a longer one: the walk stays whole. Half of the time
+ * both are times, so that the longer one is longer than any type. */
 static uint8_t damage_by_empty_field(struct maker *m)
 {
+    bool times = one_in(m, 2);
     size_t place = below(m, SETTINGS - 1);
+    if (times)
+        place = (size_t)between(m, ACCELERATION_ONE, DECELERATION_POSITIVE);
     size_t longer = value_size(place) + value_size(place + 1);
     const uint8_t heads[] = {tag_of(place), 0, 0, tag_of(place + 1), (uint8_t)longer, 0};
     emit_patch(m, field_start(place), heads, sizeof heads);
-    return tag_of(one_in(m, 3) ? place : place + 1);
+    emit_find(m, tag_of(place + 1), IMAGE_SIZE);
+    return tag_of(place);
 }
 
 /* The same with the empty field behind: its head is the image's last bytes. */
@@ -235,14 +248,6 @@ enum { DAMAGES = sizeof damages / sizeof damages[0] };
 
 /* ---- Searches ---- */
 
-static void emit_find(struct maker *m, uint8_t tag, size_t size)
-{
-    struct record record = make(m, EVENT_FIND);
-    record.small = tag;
-    record.word = (uint16_t)size;
-    emit(m, &record);
-}
-
 /* Tags 0 to 20 in the image cut at every kind of place. */
 void scene_find(struct maker *m)
 {
@@ -339,7 +344,7 @@ static void emit_load(struct maker *m)
     emit(m, &record);
 }
 
-static void emit_load_as_it_is(struct maker *m)
+void emit_load_as_it_is(struct maker *m)
 {
     struct record record = make(m, EVENT_LOAD);
     record.small = LOAD_AS_IT_IS;
@@ -395,15 +400,20 @@ void scene_load(struct maker *m)
         emit_load(m);
 }
 
-/* None, one, two and many bytes more, in turn. */
+/* None, one, two and many bytes more, in turn; at first of a good image and where a load is
+ * allowed. */
 void scene_append(struct maker *m)
 {
+    enum { AT_FIRST = 4 };
     static const uint8_t counts[] = {0, 1, 255, 2, 0, 1, 255, 2, 3, 254, 97};
     uint32_t turn = next_turn(m, SWEEP_APPENDS);
     uint8_t count = counts[turn % sizeof counts];
-    if (!one_in(m, 4))
+    if (turn < AT_FIRST || !one_in(m, 4))
         make_image_good(m);
-    steer_for_load(m);
+    if (turn < AT_FIRST)
+        steer_to_disabled(m);
+    else
+        steer_for_load(m);
     emit_append(m, count);
     if (one_in(m, 2))
         emit_append(m, (uint8_t)draw(m));
@@ -432,10 +442,10 @@ static void load_good_image(struct maker *m)
     }
 }
 
-/* The image that was refused for a value, now also refused for something else. */
-static void load_refused_again(struct maker *m)
+/* The image that was refused for a value, now in turn also refused for something else. */
+static void load_refused_again(struct maker *m, uint32_t turn)
 {
-    switch (below(m, 4)) {
+    switch (turn % 4) {
     case 0:
         emit_append(m, 1);
         break;
@@ -473,7 +483,7 @@ void scene_loaded_value(struct maker *m)
     const struct object *object = object_of_setting(place);
     patch_value(m, place, above ? object->high + 1 : object->low - 1);
     emit_load_as_it_is(m);
-    load_refused_again(m);
+    load_refused_again(m, turn);
     patch_value(m, place, above ? object->high : object->low);
     emit_load_as_it_is(m);
 }

@@ -8,7 +8,7 @@ const uint32_t mappable[MAPS][MAPPABLE] = {
     [TRANSMIT_MAP] = {0x60410010, 0x604e0010, 0x63100110},
 };
 
-static const struct object *map_object(enum map_kind kind)
+static struct found map_object(enum map_kind kind)
 {
     return object_find(kind == RECEIVE_MAP ? 0x1600 : 0x1a00);
 }
@@ -82,8 +82,7 @@ static void build_planned_map(struct maker *m, enum map_kind kind, uint32_t turn
 
 static void emit_map_read(struct maker *m, enum map_kind kind, uint8_t sub)
 {
-    uint32_t ignored = (uint32_t)draw(m);
-    emit_sdo(m, READ, map_object(kind)->index, sub, ignored);
+    emit_read(m, map_object(kind), sub);
 }
 
 /* Every count in every state; then one entry is read. */
@@ -196,7 +195,7 @@ static void scene_map_counts(struct maker *m)
 static void emit_map_sized(struct maker *m, enum map_kind kind, uint8_t sub, size_t size,
                            uint32_t data)
 {
-    emit_sdo(m, write_command(size), map_object(kind)->index, sub, data);
+    emit_sized_write(m, map_object(kind), sub, size, data);
 }
 
 static void emit_wrong_entry_sizes(struct maker *m, enum map_kind kind, uint8_t sub)

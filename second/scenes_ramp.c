@@ -9,6 +9,7 @@ void scene_at_once(struct maker *m)
 {
     static const int8_t places[] = {1, 2, 1, -1, -2, -1, 1};
     int64_t unit = between(m, 1, FULL_STROKE / 2);
+    select_by_turn(m, next_turn(m, SWEEP_AT_ONCE));
     steer_to_hold(m);
     plain_scaling(m);
     emit_setting(m, RAMP_TYPE, 0);
@@ -68,11 +69,10 @@ static void start_way(struct maker *m, const struct slope *slope, int64_t from, 
 /* Some whole steps and then the rest, by the tick that meets zero and one more. */
 static void play_ticks(struct maker *m, const struct slope *slope, int64_t rest, int64_t past)
 {
-    uint32_t steps = below(m, 3);
+    uint32_t steps = 1 + below(m, 2);
     start_way(m, slope, steps * slope->step_in + rest, past);
     emit_plain(m, EVENT_QUERY);
-    if (steps > 0)
-        emit_word(m, EVENT_TICKS, (uint16_t)steps);
+    emit_word(m, EVENT_TICKS, (uint16_t)steps);
     emit_plain(m, EVENT_TICK);
     emit_plain(m, EVENT_TICK);
 }
@@ -83,6 +83,8 @@ static void play_tick_edges(struct maker *m, const struct slope *slope)
 {
     int64_t step = slope->step_in;
     int64_t rest = between(m, 1, step - 2);
+    if (rest == slope->step_out) /* a tick without a halt would end at zero too */
+        rest--;
     int64_t far = between(m, step, 3 * step);
     int64_t near = between(m, 1, step - rest - 1);
     play_ticks(m, slope, rest, far);
@@ -122,16 +124,18 @@ static void play_jump_edges(struct maker *m, const struct slope *slope)
 
 /* ---- All of them in turn ---- */
 
-/* In turn each type from each side, by ticks and by jumps; in HOLD or ACTIVE. */
+/* In turn each type from each side, by ticks and by jumps, of each block; in HOLD or ACTIVE. */
 void scene_across_zero(struct maker *m)
 {
+    enum { WAYS = RAMPS * SIDES, TICKS_AND_JUMPS = 2 };
     uint32_t turn = next_turn(m, SWEEP_ACROSS_ZERO);
+    select_by_turn(m, turn / (WAYS * TICKS_AND_JUMPS));
     steer_to_hold(m);
     plain_scaling(m);
     struct slope slope = set_slope(m, turn % RAMPS, turn / RAMPS % SIDES);
     if (one_in(m, 2))
         emit_control(m, 7);
-    if (turn / (RAMPS * SIDES) % 2 == 0)
+    if (turn / WAYS % TICKS_AND_JUMPS == 0)
         play_jump_edges(m, &slope);
     else
         play_tick_edges(m, &slope);

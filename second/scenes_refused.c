@@ -8,7 +8,7 @@ static void set_any_request(struct maker *m, struct record *record)
 {
     static const uint8_t firsts[] = {READ, READ, WRITE_2, 0x80, 0x9f, 0x7f, 0xa0};
     uint8_t first = PICK(m, firsts);
-    uint16_t index = pick_object(m)->index;
+    uint16_t index = object_index(pick_object(m));
     uint8_t sub = (uint8_t)below(m, 2);
     set_request(record, first, index, sub, 7);
 }
@@ -88,6 +88,7 @@ static void leave_fault(struct maker *m)
 void scene_unsound(struct maker *m)
 {
     uint32_t turn = next_turn(m, SWEEP_UNSOUND);
+    select_by_chance(m);
     steer_to(m, state_for(turn));
     for (uint8_t way = 0; way < UNSOUND_KINDS; way++) {
         struct record record = make(m, EVENT_UNSOUND);
@@ -128,35 +129,67 @@ static uint16_t word_of_dither(struct maker *m, uint32_t turn)
 
 static uint16_t word_of_way(struct maker *m, uint32_t turn, const struct record *record)
 {
-    if (record->small <= BROKEN_SETTING_LEAST)
+    switch (record->small) {
+    case BROKEN_SETTING_ABOVE:
+    case BROKEN_SETTING_BELOW:
+    case BROKEN_SETTING_MOST:
+    case BROKEN_SETTING_LEAST:
+    case BROKEN_OTHER_SETTING_ABOVE:
+    case BROKEN_OTHER_SETTING_BELOW:
         return word_of_setting(m, turn % SETTINGS);
-    if (record->small >= BROKEN_MAP_COUNT_5 && record->small <= BROKEN_MAP_ENTRY_ZERO)
+    case BROKEN_MAP_COUNT_5:
+    case BROKEN_MAP_COUNT_255:
+    case BROKEN_MAP_ENTRY_OTHER:
+    case BROKEN_MAP_ENTRY_ZERO:
         return word_of_map(m, turn);
-    if (record->small >= BROKEN_DITHER_ABOVE && record->small <= BROKEN_DITHER_LEAST)
+    case BROKEN_DITHER_ABOVE:
+    case BROKEN_DITHER_MINUS_1:
+    case BROKEN_DITHER_MOST:
+    case BROKEN_DITHER_LEAST:
         return word_of_dither(m, turn);
-    return record->word;
+    default:
+        return record->word;
+    }
 }
 
-/* Every way with one call, one setting, entry of a map or value of the dither, and in one state,
- * each in turn; in every other round of calls the settings alone, which are the most. What a
- * load is given is damaged from some way on. */
+static void emit_broken(struct maker *m, uint32_t turn, uint8_t way)
+{
+    struct record record = make(m, EVENT_BROKEN);
+    set_call(m, &record, turn % CALLS);
+    record.small = way;
+    if (way == BROKEN_STATE && one_in(m, 2))
+        record.small = (uint8_t)between(m, BROKEN_KINDS, UINT8_MAX);
+    record.word = word_of_way(m, turn, &record);
+    emit(m, &record);
+}
+
+/* Every way with one call, one setting, entry of a map or value of the dither, with one block
+ * selected and in one state, each in turn. What a load is given is damaged from some way on. */
 void scene_broken(struct maker *m)
 {
     uint32_t turn = next_turn(m, SWEEP_BROKEN);
-    bool settings_alone = turn / CALLS % 2 == 1;
-    uint8_t ways = settings_alone ? BROKEN_SETTING_LEAST + 1 : BROKEN_KINDS;
-    uint32_t damaged_from = below(m, ways);
+    uint32_t damaged_from = below(m, BROKEN_KINDS);
+    select_by_turn(m, turn + turn / CALLS);
     steer_to(m, state_for(turn));
-    for (uint8_t way = 0; way < ways; way++) {
+    for (uint8_t way = 0; way < BROKEN_KINDS; way++) {
         if (turn % CALLS == CALL_LOAD && way == damaged_from)
             emit_plain(m, EVENT_PATCH);
-        struct record record = make(m, EVENT_BROKEN);
-        set_call(m, &record, turn % CALLS);
-        record.small = way;
-        if (way == BROKEN_STATE && one_in(m, 2))
-            record.small = (uint8_t)between(m, BROKEN_KINDS, UINT8_MAX);
-        record.word = word_of_way(m, turn, &record);
-        emit(m, &record);
+        emit_broken(m, turn, way);
     }
+    leave_fault(m);
+}
+
+/* The ways of the settings alone, which are the most: each setting of the selected block and of
+ * the other, with each block selected. */
+void scene_broken_setting(struct maker *m)
+{
+    static const uint8_t ways[] = {BROKEN_SETTING_ABOVE,       BROKEN_SETTING_BELOW,
+                                   BROKEN_SETTING_MOST,        BROKEN_SETTING_LEAST,
+                                   BROKEN_OTHER_SETTING_ABOVE, BROKEN_OTHER_SETTING_BELOW};
+    uint32_t turn = next_turn(m, SWEEP_BROKEN_SETTINGS);
+    select_by_turn(m, turn / SETTINGS);
+    steer_to(m, state_for(turn));
+    for (size_t i = 0; i < sizeof ways; i++)
+        emit_broken(m, turn, ways[i]);
     leave_fault(m);
 }

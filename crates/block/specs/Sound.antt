@@ -18,12 +18,13 @@ soundSettings settings =
     && each SETTINGS (λ place. inRow (rowAt place) (at settings place))
     && at settings LOWER-LIMIT ≤? at settings UPPER-LIMIT
 
--- a position within full stroke, a set point in its row's range, sound settings
+-- a position within full stroke, and a set point in its row's range
+abbrev pub placed : Block → Bool
+placed b = liesIn (minus FULL-POSITION) (pos FULL-POSITION) (b .position) && inRow (rowAt SET-POINT) (b .setpoint)
+
+-- and sound settings
 unfoldable pub soundBlock : Block → Bool
-soundBlock b =
-    liesIn (minus FULL-POSITION) (pos FULL-POSITION) (b .position)
-    && inRow (rowAt SET-POINT) (b .setpoint)
-    && soundSettings (b .settings)
+soundBlock b = placed b && soundSettings (b .settings)
 
 -- what the functions of a block ask
 pub record Sound (b : Block) : Type 0 where

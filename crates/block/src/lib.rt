@@ -1,11 +1,15 @@
 // A value chain: from the set point by the settings to the target, along the ramp to the position, and on to the command.
 ghost use mathlib.Core.Path.{_≡_};
-ghost use Rattle.integers.specs.Words.{_=?_};
-ghost use Rattle.block.specs.Block.{setting, atPosition, withSetpoint, withSetting, withSettings, freshBlock};
+ghost use mathlib.Core.Bool.{_&&_};
+ghost use Rattle.integers.specs.Words.{_=?_, _≤?_};
+ghost use Rattle.objects.specs.Table.{rowAt, inRow};
+ghost use Rattle.objects.specs.Asked.{InTable};
+ghost use Rattle.objects.specs.Places.{UPPER-LIMIT, LOWER-LIMIT};
+ghost use Rattle.block.specs.Block.{at, setting, atPosition, withSetpoint, withSetting, withSettings, freshBlock};
 ghost use Rattle.block.specs.Target.{inputOf, clampTo, clampToStroke, scaledBy, targetFrom, targetOf, targetPosition};
 ghost use Rattle.block.specs.Command.{wholeOf, bandedBy, bandedOf, commandOf};
 ghost use Rattle.block.specs.Command as Commands;
-ghost use Rattle.block.specs.Sound.{soundSettings, soundBlock, Sound};
+ghost use Rattle.block.specs.Sound.{soundSettings, placed, soundBlock, Sound};
 ghost use Rattle.block.specs.Travel.{rampOf, tickBlock, jumpBlock, ticksToGoOf};
 ghost use Rattle.block.specs.Asked.{ASetting, Scaling, Chain, Band, Dithered};
 use objects::A_SIDE;
@@ -219,27 +223,58 @@ pub fn command(block: Block, dither: i64) -> i64
 
 // ---- soundness
 
-// Each of the settings is in its row's range, and the limits are not crossed.
-pub fn sound_settings(settings: [i64; SETTINGS]) -> bool
-    ensures { λ r. ⌜ r ≡ soundSettings settings ⌝ }
+// Two values in the range of the row at a place, which is looked up once for both.
+fn are_in_range(place: usize, x: i64, y: i64) -> bool
+    requires { ⌜ InTable place ⌝ }
+    ensures { λ r. ⌜ r ≡ (inRow (rowAt place) x && inRow (rowAt place) y) ⌝ }
+{
+    let row = objects::row_at(place);
+    objects::lies_in(row.low, row.high, x) && objects::lies_in(row.low, row.high, y)
+}
+
+// The lower limit is not above the upper one.
+fn are_limits_sound(settings: [i64; SETTINGS]) -> bool
+    ensures { λ r. ⌜ r ≡ (at settings LOWER-LIMIT ≤? at settings UPPER-LIMIT) ⌝ }
+{
+    settings[LOWER_LIMIT] <= settings[UPPER_LIMIT]
+}
+
+// The settings of two blocks: each is in its row's range, and no limits are crossed.
+fn are_settings_sound(settings: [i64; SETTINGS], others: [i64; SETTINGS]) -> bool
+    ensures { λ r. ⌜ r ≡ (soundSettings settings && soundSettings others) ⌝ }
 {
     let mut place = 0;
     while place < SETTINGS {
-        if !objects::in_range(place, settings[place]) {
+        if !are_in_range(place, settings[place], others[place]) {
             return false;
         }
         place += 1;
     }
-    settings[LOWER_LIMIT] <= settings[UPPER_LIMIT]
+    are_limits_sound(settings) && are_limits_sound(others)
 }
 
-pub fn is_sound(block: Block) -> bool
-    ensures { λ r. ⌜ r ≡ soundBlock block ⌝ }
+// Those of one.
+pub fn sound_settings(settings: [i64; SETTINGS]) -> bool
+    ensures { λ r. ⌜ r ≡ soundSettings settings ⌝ }
 {
-    let settings = block.settings;
+    are_settings_sound(settings, settings)
+}
+
+// The position within full stroke, and the set point in its row's range.
+fn is_placed(block: Block) -> bool
+    ensures { λ r. ⌜ r ≡ placed block ⌝ }
+{
     objects::lies_in(-FULL_POSITION, FULL_POSITION, block.position)
         && objects::in_range(SET_POINT, block.setpoint)
-        && sound_settings(settings)
+}
+
+// Two blocks at once, so that each row is looked up once for both. The settings first: in the other order every call costs more.
+pub fn are_sound(block: Block, other: Block) -> bool
+    ensures { λ r. ⌜ r ≡ (soundBlock block && soundBlock other) ⌝ }
+{
+    let settings = block.settings;
+    let others = other.settings;
+    are_settings_sound(settings, others) && is_placed(block) && is_placed(other)
 }
 
 // Every setting as the table has it fresh.

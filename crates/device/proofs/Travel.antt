@@ -3,11 +3,7 @@ use mathlib.Core.Bool.{true, false}
 use mathlib.Core.Path.{_≡_, refl, sym, ap, _∙_}
 use Prim.Native.Nat.{ℕ, zero, suc, _+_}
 use native.Mathlib.Omega.{arith}
-use lib.IntN.{pos}
-use Rattle.integers.specs.Words.{_=?_, _is_}
 use Rattle.integers.proofs.Cases.{by-cases}
-use Rattle.integers.proofs.Each.{and-split}
-use Rattle.integers.proofs.Machine.{=?-yes}
 use Rattle.block.specs.Travel.{tickBlockTimes, jumpBlock, ticksToGoOf}
 use Rattle.block.specs.declared.Block.{Block}
 use Rattle.block.proofs.Travel.{block-demand3, ticks-are-a-jump, jumps-add}
@@ -18,10 +14,10 @@ use Rattle.device.specs.States.{driven}
 use Rattle.device.specs.Device.{withBlock, withDither, isActive}
 use Rattle.device.specs.Events.{tickDevice, tickDeviceTimes, jumpDevice}
 use Rattle.device.specs.Queries.{deviceTicksToGo}
-use Rattle.device.specs.Sound.{rests, Sound}
+use Rattle.device.specs.Sound.{Sound}
 use Rattle.device.specs.Demand.{devicePositionAfter, Demand3}
 use Rattle.device.specs.declared.Device.{Device}
-use Rattle.device.proofs.Laws.{device-parts, block-of-sound, dither-of-sound}
+use Rattle.device.proofs.Laws.{block-of-sound, dither-of-sound, rests-at-zero}
 
 -- ---- at rest
 
@@ -38,10 +34,6 @@ module _ (d : Device) (k : driven (d .state) ≡ false) where
   unfolding tickDeviceTimes
   ticks-rest zero = refl
   ticks-rest (suc n) = ap tickDevice (ticks-rest n) ∙ tick-rests
-
-rests-at-zero : {d : Device} → Sound d → driven (d .state) ≡ false → d .block .position ≡ pos 0
-unfolding rests
-rests-at-zero {d} s k = =?-yes (d .block .position) (pos 0) (and-split (d .block .position =? pos 0) (d .dither .phase is 0) (rw k at (device-parts s .at-rest)) .0)
 
 -- ---- driven
 

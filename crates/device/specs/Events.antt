@@ -1,4 +1,5 @@
--- Document 01, "Device states" and "Ramp", with the dither of wish 4 of document 02: what an accepted control word, a fault, a tick and a jump do.
+-- Document 01, "Device states" and "Ramp", with wishes 4 and 6 of document 02: what an accepted control word, a fault, a tick and a jump do.
+-- Of the two blocks they know the selected one alone.
 use Prim.Native.Nat.{ℕ, zero, suc}
 use lib.IntN.{pos}
 use Rattle.integers.specs.Words.{if_then_else_, _is_}

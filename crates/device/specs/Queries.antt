@@ -1,4 +1,5 @@
--- Document 01, "Device states", "From set point to target", "Ramp" and "Command", with the dither of wish 4 of document 02: what can be asked of a device.
+-- Document 01, "Device states", "From set point to target", "Ramp" and "Command", with wishes 4 and 6 of document 02: what can be asked of a device,
+-- which is of the selected block.
 use Prim.Native.Nat.{ℕ, _+_}
 use lib.IntN.{ℤ, pos}
 use Rattle.integers.specs.Words.{if_then_else_, _is_, _=?_}
@@ -45,6 +46,10 @@ deviceTarget d = targetOf (isActive d) (d .block)
 -- the command in ir: 0 in DISABLED and FAULT; else with the dither at the phase as it stands
 unfoldable pub deviceCommand : Device → ℤ
 deviceCommand d = if driven (d .state) then commandOf (ditherOf (d .dither)) (d .block) else pos 0
+
+-- the command of a block: that of the block not selected is 0
+unfoldable pub blockCommand : ℕ → Device → ℤ
+blockCommand which d = if d .selected is which then deviceCommand d else pos 0
 
 -- the ticks to go: 0 in DISABLED and FAULT
 unfoldable pub deviceTicksToGo : Device → ℕ

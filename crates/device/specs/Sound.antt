@@ -1,9 +1,10 @@
--- Document 01, "Numbers handed back", with the maps and the dither of wishes 2 and 4 of document 02: what makes a state sound.
+-- Document 01, "Numbers handed back", with wishes 2, 4 and 6 of document 02: what makes a state sound.
 use mathlib.Core.Bool.{Bool, true, not, _&&_, _||_}
 use mathlib.Core.Path.{_≡_}
 use Prim.Native.Nat.{ℕ}
 use lib.IntN.{pos}
 use Rattle.integers.specs.Words.{if_then_else_, _is_, _=?_}
+use Rattle.objects.specs.Places.{POSITION, PRESSURE}
 use Rattle.block.specs.Sound.{soundBlock}
 use Rattle.mapping.specs.Sound.{soundMaps}
 use Rattle.dither.specs.Sound.{soundDither}
@@ -22,11 +23,16 @@ errorFits state error = if state is FAULT then not (error is 0) else error is 0
 unfoldable pub rests : Device → Bool
 rests d = driven (d .state) || (d .block .position =? pos 0 && d .dither .phase is 0)
 
--- one of the four states, with a fitting error code, at rest where it must be, with a sound block, a sound dither and sound maps
+-- one of the two blocks is selected, and the other one is at position 0
+unfoldable pub selectionFits : Device → Bool
+selectionFits d = (d .selected is POSITION || d .selected is PRESSURE) && d .other .position =? pos 0
+
+-- one of the four states, with a fitting error code, at rest where it must be, one block selected, with two sound blocks, a sound dither
+-- and sound maps
 unfoldable pub soundDevice : Device → Bool
 soundDevice d =
     (isState (d .state) && errorFits (d .state) (d .error)) && rests d
-    && soundBlock (d .block) && soundDither (d .dither) && soundMaps (d .maps)
+    && selectionFits d && (soundBlock (d .block) && soundBlock (d .other)) && soundDither (d .dither) && soundMaps (d .maps)
 
 -- what the functions of a device ask
 pub record Sound (d : Device) : Type 0 where

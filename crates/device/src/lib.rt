@@ -1,21 +1,29 @@
-// The device: its four states, the control word, faults, ticks and jumps, and what can be asked of it. It holds the maps of process data,
-// which no event of its own changes, and the dither, whose phase goes on where the valve is driven.
+// The device: its four states, the control word, faults, ticks and jumps, and what can be asked of it. Of its two blocks these know the
+// selected one alone. It holds the maps of process data, which no event of its own changes, and the dither, whose phase goes on where the
+// valve is driven.
 ghost use mathlib.Core.Path.{_≡_};
 ghost use mathlib.Core.Bool.{_&&_};
 ghost use Rattle.device.specs.States.{fromDisabled, fromHold, fromActive, fromFault, nextState};
 ghost use Rattle.device.specs.States as States;
-ghost use Rattle.device.specs.Device.{freshDevice, withBlock, withMaps, withDither};
+ghost use Rattle.device.specs.Device.{freshDevice, withBlock, withOther, withMaps, withDither, blockOf, withBlockOf, selecting};
 ghost use Rattle.device.specs.Events.{blockIn, ditherIn, errorIn, controlled, faulted, tickDevice, jumpDevice};
 ghost use Rattle.device.specs.Events as Events;
-ghost use Rattle.device.specs.Queries.{targetMet, statusOf, deviceTarget, deviceCommand, deviceTicksToGo};
-ghost use Rattle.device.specs.Sound.{isState, errorFits, soundDevice, Sound};
+ghost use Rattle.device.specs.Queries.{targetMet, statusOf, deviceTarget, deviceCommand, blockCommand, deviceTicksToGo};
+ghost use Rattle.device.specs.Sound.{isState, errorFits, selectionFits, soundDevice, Sound};
 ghost use Rattle.device.specs.Sound as Sounds;
 use block::Block;
 use dither::Dither;
 use mapping::Maps;
+use objects::POSITION;
+use objects::PRESSURE;
 
 pub struct Device {
+    // the selected block, which drives the command
     pub block: Block,
+    // the other one
+    pub other: Block,
+    // which one is selected: 0 the position block, 1 the pressure block
+    pub selected: u8,
     // 0 DISABLED, 1 HOLD, 2 ACTIVE, 3 FAULT
     pub state: u8,
     // the control word stored last
@@ -68,6 +76,8 @@ pub fn fresh() -> Device
     let block = block::fresh();
     Device {
         block: block,
+        other: block,
+        selected: POSITION,
         state: DISABLED,
         control: 0,
         error: 0,
@@ -76,13 +86,60 @@ pub fn fresh() -> Device
     }
 }
 
-// The device with another block.
+// The device with another selected block.
 pub fn with_block(device: Device, block: Block) -> Device
     ensures { λ r. ⌜ r ≡ withBlock block device ⌝ }
 {
     let mut other = device;
     other.block = block;
     other
+}
+
+// The device with another one in place of the block that is not selected.
+pub fn with_other(device: Device, block: Block) -> Device
+    ensures { λ r. ⌜ r ≡ withOther block device ⌝ }
+{
+    let mut other = device;
+    other.other = block;
+    other
+}
+
+// The block of a number.
+pub fn block_of(device: Device, which: u8) -> Block
+    ensures { λ r. ⌜ r ≡ blockOf which device ⌝ }
+{
+    if device.selected == which {
+        device.block
+    } else {
+        device.other
+    }
+}
+
+// The device with another block of a number.
+pub fn with_block_of(device: Device, which: u8, block: Block) -> Device
+    ensures { λ r. ⌜ r ≡ withBlockOf which block device ⌝ }
+{
+    if device.selected == which {
+        with_block(device, block)
+    } else {
+        with_other(device, block)
+    }
+}
+
+// The device with the block of a number selected: where it is the other one, the two change places.
+pub fn select(device: Device, which: u8) -> Device
+    ensures { λ r. ⌜ r ≡ selecting which device ⌝ }
+{
+    if device.selected == which {
+        return device;
+    }
+    let block = device.block;
+    let other = device.other;
+    let mut exchanged = device;
+    exchanged.block = other;
+    exchanged.other = block;
+    exchanged.selected = which;
+    exchanged
 }
 
 // The device with other maps.
@@ -115,14 +172,14 @@ fn driven(state: u8) -> bool
 
 // ---- soundness
 
-// One of the four states, of which FAULT is the last, with an error code exactly in FAULT: without a code a state below FAULT, with
-// one FAULT itself.
+// One of the four states, with an error code exactly in FAULT.
 fn state_fits(state: u8, error: u16) -> bool
     ensures { λ r. ⌜ r ≡ (isState state && errorFits state error) ⌝ }
 {
-    match error {
-        0 => state < FAULT,
-        _ => state == FAULT,
+    match state {
+        DISABLED | HOLD | ACTIVE => error == 0,
+        FAULT => error != 0,
+        _ => false,
     }
 }
 
@@ -135,16 +192,26 @@ fn rests(device: Device) -> bool
     driven(device.state) || (block.position == 0 && dither.phase == 0)
 }
 
+// One of the two blocks is selected, and the other one is at position 0.
+fn selection_fits(device: Device) -> bool
+    ensures { λ r. ⌜ r ≡ selectionFits device ⌝ }
+{
+    let other = device.other;
+    device.selected <= PRESSURE && other.position == 0
+}
+
 // The cheap tests first.
 pub fn is_sound(device: Device) -> bool
     ensures { λ r. ⌜ r ≡ soundDevice device ⌝ }
 {
     let block = device.block;
+    let other = device.other;
     let maps = device.maps;
     let dither = device.dither;
     state_fits(device.state, device.error)
         && rests(device)
-        && block::is_sound(block)
+        && selection_fits(device)
+        && block::are_sound(block, other)
         && dither::is_sound(dither)
         && mapping::is_sound(maps)
 }
@@ -340,6 +407,15 @@ pub fn command(device: Device) -> i64
     } else {
         0
     }
+}
+
+// The command of a block: that of the block not selected is 0.
+pub fn command_of(device: Device, which: u8) -> i64
+    requires { ⌜ Sound device ⌝ }
+    ensures { λ r. ⌜ r ≡ blockCommand which device ⌝ }
+{
+    let drives = device.selected == which;
+    if drives { command(device) } else { 0 }
 }
 
 // 256 while a driven valve is at its target.

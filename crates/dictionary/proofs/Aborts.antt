@@ -21,6 +21,7 @@ use Rattle.objects.specs.declared.Entry.the-variants.{Value, Fixed, Missing}
 use Rattle.objects.proofs.Rules.{writable-below}
 use Rattle.mapping.specs.declared.Ruling.{Ruling}
 use Rattle.mapping.specs.declared.Ruling.the-variants.{Accepted, WhileCounted, AboveFour, NotMappable}
+use Rattle.device.specs.Device.{blockOf}
 use Rattle.device.specs.declared.Device.{Device}
 use Rattle.dictionary.specs.Aborts.{UNKNOWN-COMMAND, NO-OBJECT, NO-SUB-INDEX, READ-ONLY-ENTRY, TOO-MANY-BYTES, TOO-FEW-BYTES, TOO-HIGH, TOO-LOW, NO-SUCH-CHOICE, LIMITS-CROSSED, LOCKED-NOW, MAP-TOO-LONG, NOT-MAPPABLE}
 use Rattle.dictionary.specs.Named.{Named, value, byte, nothing, entered, located, named}
@@ -52,23 +53,23 @@ code-of-fewer {has} {sent} h = rw (le-ltb has sent (omega arith))
 -- ---- the verdict on a write
 
 -- the fifth place is met where the object can be written and the sizes differ, whatever the value is
-pub size-aborts : (d : Device) (place size : ℕ) (x : ℤ) → rowAt place .writable ≡ true → rowAt place .size ≢ size → verdictOn d place size x ≡ Abort (sizeCode (rowAt place .size) size)
+pub size-aborts : (d : Device) (which place size : ℕ) (x : ℤ) → rowAt place .writable ≡ true → rowAt place .size ≢ size → verdictOn d which place size x ≡ Abort (sizeCode (rowAt place .size) size)
 unfolding verdictOn
-size-aborts d place size x w n = rw (w, ne-eqb (rowAt place .size) size n)
+size-aborts d which place size x w n = rw (w, ne-eqb (rowAt place .size) size n)
 
 -- and nowhere else: a verdict is that abort, an abort with another place's code, or the write
-by-verdict : (P : Decision → Type 0) (d : Device) (place size : ℕ) (x : ℤ) → (rowAt place .writable ≡ true → rowAt place .size ≢ size → P (Abort (sizeCode (rowAt place .size) size))) → ((code : ℕ) → Other code → P (Abort code)) → P (Write place x) → P (verdictOn d place size x)
+by-verdict : (P : Decision → Type 0) (d : Device) (which place size : ℕ) (x : ℤ) → (rowAt place .writable ≡ true → rowAt place .size ≢ size → P (Abort (sizeCode (rowAt place .size) size))) → ((code : ℕ) → Other code → P (Abort code)) → P (Write which place x) → P (verdictOn d which place size x)
 unfolding verdictOn
-by-verdict P d place size x differ other written =
+by-verdict P d which place size x differ other written =
     let row = rowAt place in
     by-test P (not (row .writable)) (λ w. other READ-ONLY-ENTRY refl)
     (λ w. by-test P (not (eqb (row .size) size)) (λ n. differ (not-false _ w) (eqb-false _ _ (not-true _ n)))
     (λ n. by-test P (ltZ (row .high) x) (λ h. other _ (range-other (row .choice) TOO-HIGH refl))
     (λ h. by-test P (ltZ x (row .low)) (λ l. other _ (range-other (row .choice) TOO-LOW refl))
-    (λ l. by-test P (crosses d place x) (λ c. other LIMITS-CROSSED refl)
+    (λ l. by-test P (crosses (blockOf which d) place x) (λ c. other LIMITS-CROSSED refl)
     (λ c. by-test P (isLocked (row .lock) (d .state)) (λ k. other LOCKED-NOW refl) (λ k. by-ruling (mapRuling (d .maps) place x)))))))
   where
-    by-ruling : (r : Ruling) → P (ruled r place x)
+    by-ruling : (r : Ruling) → P (ruled r which place x)
     by-ruling Accepted = written
     by-ruling WhileCounted = other LOCKED-NOW refl
     by-ruling AboveFour = other MAP-TOO-LONG refl
@@ -78,21 +79,21 @@ by-verdict P d place size x differ other written =
 
 -- the code with which nothing is named is another place's
 abbrev OtherCode : Named → Type 0
-OtherCode (value place) = Unit {0}
+OtherCode (value which place) = Unit {0}
 OtherCode (byte number) = Unit {0}
 OtherCode (nothing code) = Other code
 
-entered-code : (place : ℕ) (entry : Entry) → OtherCode (entered place entry)
-entered-code place (Value k) = tt
-entered-code place (Fixed number) = tt
-entered-code place Missing = refl
+entered-code : (which place : ℕ) (entry : Entry) → OtherCode (entered which place entry)
+entered-code which place (Value k) = tt
+entered-code which place (Fixed number) = tt
+entered-code which place Missing = refl
 
 named-code : (index sub : ℕ) → OtherCode (named index sub)
 unfolding named
 named-code index sub = by (placeOf index)
   where
     by : (p : Place) → OtherCode (located p sub)
-    by (At place) = entered-code place (entryAt (rowAt place .entries) sub)
+    by (At which place) = entered-code which place (entryAt (rowAt place .entries) sub)
     by Nowhere = refl
 
 -- a read is aborted with another place's code alone
@@ -101,16 +102,16 @@ unfolding readDecision readOf
 by-read P d index sub other done = by (named index sub) (named-code index sub)
   where
     by : (n : Named) → OtherCode n → P (readOf d n)
-    by (value place) o = done _ _
+    by (value which place) o = done _ _
     by (byte number) o = done 1 number
     by (nothing code) o = other code o
 
 -- and a write at the fifth place too, where what is named can be written and the sizes differ
-pub by-write : (P : Decision → Type 0) (d : Device) (index sub size number : ℕ) → ((place : ℕ) → named index sub ≡ value place → place < WRITABLE → rowAt place .size ≢ size → P (Abort (sizeCode (rowAt place .size) size))) → ((code : ℕ) → Other code → P (Abort code)) → ((place : ℕ) (x : ℤ) → P (Write place x)) → P (writeDecision d index sub size number)
+pub by-write : (P : Decision → Type 0) (d : Device) (index sub size number : ℕ) → ((which place : ℕ) → named index sub ≡ value which place → place < WRITABLE → rowAt place .size ≢ size → P (Abort (sizeCode (rowAt place .size) size))) → ((code : ℕ) → Other code → P (Abort code)) → ((which place : ℕ) (x : ℤ) → P (Write which place x)) → P (writeDecision d index sub size number)
 unfolding writeDecision writeOf
 by-write P d index sub size number differ other done = by (named index sub) refl (named-in-table index sub) (named-code index sub)
   where
     by : (n : Named) → named index sub ≡ n → InTable n → OtherCode n → P (writeOf d size number n)
-    by (value place) f h o = by-verdict P d place size _ (λ w n. differ place f (writable-below place h w) n) other (done place _)
+    by (value which place) f h o = by-verdict P d which place size _ (λ w n. differ which place f (writable-below place (h .row) w) n) other (done which place _)
     by (byte fixed) f h o = other READ-ONLY-ENTRY refl
     by (nothing code) f h o = other code o

@@ -3,3 +3,4 @@ pub mod Maps
 pub mod Written
 pub mod Decisions
 pub mod Aborts
+pub mod Mirror

@@ -103,16 +103,16 @@ map-number {place} m x w =
 
 -- ---- what is read
 
-module _ (d : Device) (place : ℕ) where
-  pub value-of-dither : OfDither place → valueAt d place ≡ Dithers.standsAt (d .dither) (place - DITHER-TYPE)
+module _ (d : Device) (which place : ℕ) where
+  pub value-of-dither : OfDither place → valueAt d which place ≡ Dithers.standsAt (d .dither) (place - DITHER-TYPE)
   unfolding valueAt
   value-of-dither m = rw (le-ltb place SETTINGS (m .0), lt-ltb place RECEIVE-MAP (m .1))
 
-  pub value-of-receive : OfReceive place → valueAt d place ≡ pos (standsAt (d .maps .receive) (place - RECEIVE-MAP))
+  pub value-of-receive : OfReceive place → valueAt d which place ≡ pos (standsAt (d .maps .receive) (place - RECEIVE-MAP))
   unfolding valueAt
   value-of-receive m = rw (past-settings (m .0), le-ltb place RECEIVE-MAP (m .0), lt-ltb place TRANSMIT-MAP (m .1))
 
-  pub value-of-transmit : OfTransmit place → valueAt d place ≡ pos (standsAt (d .maps .transmit) (place - TRANSMIT-MAP))
+  pub value-of-transmit : OfTransmit place → valueAt d which place ≡ pos (standsAt (d .maps .transmit) (place - TRANSMIT-MAP))
   unfolding valueAt
   value-of-transmit m = rw (past-settings (past-receive m), le-ltb place RECEIVE-MAP (past-receive m), le-ltb place TRANSMIT-MAP (m .0), lt-ltb place SET-POINT (m .1))
 

@@ -45,9 +45,9 @@ pub record After (place : ℕ) (row : Row) (k : ℕ) : Type 0 where
 pub record Ranged (place : ℕ) (x : ℤ) : Type 0 where
   pub range : InRange place x
 
--- the value at a place, which lies in its row's range
-pub record Valued (d : Device) (place : ℕ) (r : ℤ) : Type 0 where
-  pub value : r ≡ valueAt d place
+-- the value of a block at a place, which lies in its row's range
+pub record Valued (d : Device) (which place : ℕ) (r : ℤ) : Type 0 where
+  pub value : r ≡ valueAt d which place
   pub range : InRange place r
 
 -- a value for an object that can be written
@@ -63,7 +63,7 @@ pub record MapWriting (place : ℕ) (x : ℤ) : Type 0 where
 -- what a decision writes, if it is a write, is a value for an object that can be written
 abbrev pub Writes : Decision → Type 0
 Writes (Read size number) = Unit {0}
-Writes (Write place x) = Writing place x
+Writes (Write which place x) = Writing place x
 Writes (Abort code) = Unit {0}
 
 pub record Decided (decision : Decision) : Type 0 where

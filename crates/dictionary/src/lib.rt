@@ -9,7 +9,9 @@ ghost use Rattle.dictionary.specs.Decide.{isLocked, sizeCode, rangeCode,
 ghost use Rattle.dictionary.specs.Decide as Decide;
 ghost use Rattle.dictionary.specs.Asked.{Placed, Other, Mapped, Looked, After, Ranged, Valued, Writing, MapWriting, Decided};
 ghost use Rattle.device.specs.Sound.{Sound};
+use block::Block;
 use device::ACTIVE;
+use device::DISABLED;
 use device::Device;
 use mapping::Maps;
 use mapping::RECEIVABLE;
@@ -20,9 +22,11 @@ use objects::DITHER_TYPE;
 use objects::ERROR_CODE;
 use objects::Entry;
 use objects::LOWER_LIMIT;
+use objects::OUTSIDE_DISABLED;
 use objects::Place;
 use objects::RECEIVE_MAP;
 use objects::Row;
+use objects::SELECTION;
 use objects::SET_POINT;
 use objects::SETTINGS;
 use objects::STATUS_WORD;
@@ -57,19 +61,19 @@ pub const MAP_TOO_LONG: u32 = 0x06040042;
 
 pub const NOT_MAPPABLE: u32 = 0x06040041;
 
-// What becomes of a request: so many bytes of a number read, a value to be written to a place, or an abort with its code.
+// What becomes of a request: so many bytes of a number read, a value to be written to a place of a block, or an abort with its code.
 pub enum Decision {
     Read { size: u8, number: u32 },
-    Write { place: usize, value: i64 },
+    Write { which: u8, place: usize, value: i64 },
     Abort(u32),
 }
 
 // ---- values
 
 // What stands at a place of a map.
-fn map_value(device: Device, place: usize) -> i64
+fn map_value(device: Device, which: u8, place: usize) -> i64
     requires { ⌜ Mapped device place ⌝ }
-    ensures { λ r. ⌜ Valued device place r ⌝ }
+    ensures { λ r. ⌜ Valued device which place r ⌝ }
 {
     let maps = device.maps;
     if place < TRANSMIT_MAP {
@@ -82,37 +86,38 @@ fn map_value(device: Device, place: usize) -> i64
 }
 
 // The value of an object that is neither a stored setting nor of the dither nor a map.
-fn other_value(device: Device, place: usize) -> i64
+fn other_value(device: Device, which: u8, place: usize) -> i64
     requires { ⌜ Other device place ⌝ }
-    ensures { λ r. ⌜ Valued device place r ⌝ }
+    ensures { λ r. ⌜ Valued device which place r ⌝ }
 {
     match place {
         SET_POINT => {
-            let block = device.block;
+            let block = device::block_of(device, which);
             block.setpoint
         }
+        SELECTION => device.selected as i64,
         CONTROL_WORD => device.control as i64,
         STATUS_WORD => device::status(device) as i64,
         ERROR_CODE => device.error as i64,
-        _ => device::command(device),
+        _ => device::command_of(device, which),
     }
 }
 
-// The value at a place.
-fn value_at(device: Device, place: usize) -> i64
+// The value of a block at a place.
+fn value_at(device: Device, which: u8, place: usize) -> i64
     requires { ⌜ Placed device place ⌝ }
-    ensures { λ r. ⌜ Valued device place r ⌝ }
+    ensures { λ r. ⌜ Valued device which place r ⌝ }
 {
     if place < SETTINGS {
-        let block = device.block;
+        let block = device::block_of(device, which);
         block::setting(block, place)
     } else if place < RECEIVE_MAP {
         let dither = device.dither;
         dither::stands_at(dither, place - DITHER_TYPE)
     } else if place < SET_POINT {
-        map_value(device, place)
+        map_value(device, which, place)
     } else {
-        other_value(device, place)
+        other_value(device, which, place)
     }
 }
 
@@ -131,12 +136,12 @@ fn row_after(place: usize, row: Row, k: u8) -> Row
 }
 
 // The bytes of an object's value.
-fn read_value(device: Device, place: usize, row: Row) -> Decision
+fn read_value(device: Device, which: u8, place: usize, row: Row) -> Decision
     requires { ⌜ Looked device place row ⌝ }
-    ensures { λ r. ⌜ r ≡ readOf device (Named.value place) ⌝ }
+    ensures { λ r. ⌜ r ≡ readOf device (Named.value which place) ⌝ }
 {
     let size = row.size;
-    let number = coding::number_of(size, value_at(device, place));
+    let number = coding::number_of(size, value_at(device, which, place));
     Decision::Read { size, number }
 }
 
@@ -147,11 +152,11 @@ pub fn decide_read(device: Device, index: u16, sub: u8) -> Decision
 {
     match objects::place_of(index) {
         Place::Nowhere => Decision::Abort(NO_OBJECT),
-        Place::At(place) => {
+        Place::At { which, place } => {
             let row = objects::row_at(place);
             match objects::entry_at(row.entries, sub) {
                 Entry::Value(k) => {
-                    read_value(device, place + k as usize, row_after(place, row, k))
+                    read_value(device, which, place + k as usize, row_after(place, row, k))
                 }
                 Entry::Fixed(byte) => Decision::Read {
                     size: 1,
@@ -165,11 +170,10 @@ pub fn decide_read(device: Device, index: u16, sub: u8) -> Decision
 
 // ---- the decision on a write
 
-// The upper limit would be below the lower after this write.
-fn crosses(device: Device, place: usize, value: i64) -> bool
-    ensures { λ r. ⌜ r ≡ Decide.crosses device place value ⌝ }
+// The upper limit of a block would be below its lower after this write.
+fn crosses(block: Block, place: usize, value: i64) -> bool
+    ensures { λ r. ⌜ r ≡ Decide.crosses block place value ⌝ }
 {
-    let block = device.block;
     match place {
         UPPER_LIMIT => value < block::setting(block, LOWER_LIMIT),
         LOWER_LIMIT => block::setting(block, UPPER_LIMIT) < value,
@@ -181,7 +185,11 @@ fn crosses(device: Device, place: usize, value: i64) -> bool
 fn is_locked(lock: u8, state: u8) -> bool
     ensures { λ r. ⌜ r ≡ isLocked lock state ⌝ }
 {
-    lock == WHILE_ACTIVE && state == ACTIVE
+    match lock {
+        WHILE_ACTIVE => state == ACTIVE,
+        OUTSIDE_DISABLED => state != DISABLED,
+        _ => false,
+    }
 }
 
 // Where the size differs from the type's: one code for too many bytes, one for too few.
@@ -222,11 +230,15 @@ fn map_ruling(maps: Maps, place: usize, value: i64) -> Ruling
 }
 
 // The decision that a ruling leads to.
-fn ruled(ruling: Ruling, place: usize, value: i64) -> Decision
-    ensures { λ r. ⌜ r ≡ Decide.ruled ruling place value ⌝ }
+fn ruled(ruling: Ruling, which: u8, place: usize, value: i64) -> Decision
+    ensures { λ r. ⌜ r ≡ Decide.ruled ruling which place value ⌝ }
 {
     match ruling {
-        Ruling::Accepted => Decision::Write { place, value },
+        Ruling::Accepted => Decision::Write {
+            which,
+            place,
+            value,
+        },
         Ruling::WhileCounted => Decision::Abort(LOCKED_NOW),
         Ruling::AboveFour => Decision::Abort(MAP_TOO_LONG),
         Ruling::NotMappable => Decision::Abort(NOT_MAPPABLE),
@@ -234,9 +246,9 @@ fn ruled(ruling: Ruling, place: usize, value: i64) -> Decision
 }
 
 // The aborts of a write of so many bytes of a number, from the fourth on.
-fn write_value(device: Device, place: usize, row: Row, size: u8, number: u32) -> Decision
+fn write_value(device: Device, which: u8, place: usize, row: Row, size: u8, number: u32) -> Decision
     requires { ⌜ Looked device place row ⌝ }
-    ensures { λ r. ⌜ r ≡ writeOf device size number (Named.value place) ⌝ }
+    ensures { λ r. ⌜ r ≡ writeOf device size number (Named.value which place) ⌝ }
 {
     if !row.writable {
         return Decision::Abort(READ_ONLY_ENTRY);
@@ -251,14 +263,15 @@ fn write_value(device: Device, place: usize, row: Row, size: u8, number: u32) ->
     if value < row.low {
         return Decision::Abort(range_code(row.choice, TOO_LOW));
     }
-    if crosses(device, place, value) {
+    let written = device::block_of(device, which);
+    if crosses(written, place, value) {
         return Decision::Abort(LIMITS_CROSSED);
     }
     if is_locked(row.lock, device.state) {
         return Decision::Abort(LOCKED_NOW);
     }
     let maps = device.maps;
-    ruled(map_ruling(maps, place, value), place, value)
+    ruled(map_ruling(maps, place, value), which, place, value)
 }
 
 // What becomes of a write to an index and a sub-index. The row is looked up and handed on.
@@ -268,11 +281,12 @@ pub fn decide_write(device: Device, index: u16, sub: u8, size: u8, number: u32) 
 {
     match objects::place_of(index) {
         Place::Nowhere => Decision::Abort(NO_OBJECT),
-        Place::At(place) => {
+        Place::At { which, place } => {
             let row = objects::row_at(place);
             match objects::entry_at(row.entries, sub) {
                 Entry::Value(k) => write_value(
                     device,
+                    which,
                     place + k as usize,
                     row_after(place, row, k),
                     size,
@@ -288,9 +302,9 @@ pub fn decide_write(device: Device, index: u16, sub: u8, size: u8, number: u32) 
 // ---- carrying it out
 
 // An accepted write to a map.
-fn map_written(device: Device, place: usize, value: i64) -> Device
+fn map_written(device: Device, which: u8, place: usize, value: i64) -> Device
     requires { ⌜ MapWriting place value ⌝ }
-    ensures { λ r. ⌜ r ≡ writtenTo place value device ⌝ }
+    ensures { λ r. ⌜ r ≡ writtenTo which place value device ⌝ }
 {
     let maps = device.maps;
     let number = value as u32;
@@ -306,13 +320,13 @@ fn map_written(device: Device, place: usize, value: i64) -> Device
 }
 
 // An accepted write.
-fn written_to(device: Device, place: usize, value: i64) -> Device
+fn written_to(device: Device, which: u8, place: usize, value: i64) -> Device
     requires { ⌜ Writing place value ⌝ }
-    ensures { λ r. ⌜ r ≡ writtenTo place value device ⌝ }
+    ensures { λ r. ⌜ r ≡ writtenTo which place value device ⌝ }
 {
-    let block = device.block;
     if place < SETTINGS {
-        return device::with_block(device, block::with_setting(block, place, value));
+        let block = device::block_of(device, which);
+        return device::with_block_of(device, which, block::with_setting(block, place, value));
     }
     if place < RECEIVE_MAP {
         let dither = device.dither;
@@ -320,10 +334,14 @@ fn written_to(device: Device, place: usize, value: i64) -> Device
         return device::with_dither(device, dither);
     }
     if place < SET_POINT {
-        return map_written(device, place, value);
+        return map_written(device, which, place, value);
     }
     match place {
-        SET_POINT => device::with_block(device, block::with_setpoint(block, value)),
+        SET_POINT => {
+            let block = device::block_of(device, which);
+            device::with_block_of(device, which, block::with_setpoint(block, value))
+        }
+        SELECTION => device::select(device, value as u8),
         CONTROL_WORD => device::control(device, value as u16),
         _ => device,
     }
@@ -336,7 +354,11 @@ pub fn carry_out(device: Device, decision: Decision) -> Device
 {
     match decision {
         Decision::Read { size: _, number: _ } => device,
-        Decision::Write { place, value } => written_to(device, place, value),
+        Decision::Write {
+            which,
+            place,
+            value,
+        } => written_to(device, which, place, value),
         Decision::Abort(_) => device,
     }
 }

@@ -10,3 +10,8 @@ pub record InTable (place : ℕ) : Type 0 where
 pub record InRun (place from index : ℕ) : Type 0 where
   pub begins : place < ROWS
   pub reached : from ≤ index
+
+-- an index of the position block
+pub record InBlock (index : ℕ) : Type 0 where
+  pub from : 0x6300 ≤ index
+  pub to : index ≤ 0x6345

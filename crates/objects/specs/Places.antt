@@ -72,24 +72,34 @@ TRANSMIT-MAP = 25
 abbrev pub SET-POINT : ℕ
 SET-POINT = 30
 
+abbrev pub SELECTION : ℕ
+SELECTION = 31
+
 abbrev pub CONTROL-WORD : ℕ
-CONTROL-WORD = 31
+CONTROL-WORD = 32
 
 abbrev pub STATUS-WORD : ℕ
-STATUS-WORD = 32
+STATUS-WORD = 33
 
 abbrev pub ERROR-CODE : ℕ
-ERROR-CODE = 33
+ERROR-CODE = 34
 
 abbrev pub COMMAND : ℕ
-COMMAND = 34
+COMMAND = 35
 
 -- how many are stored settings, how many can be written, and how many there are
 abbrev pub SETTINGS : ℕ
 SETTINGS = 17
 
 abbrev pub WRITABLE : ℕ
-WRITABLE = 32
+WRITABLE = 33
 
 abbrev pub ROWS : ℕ
-ROWS = 35
+ROWS = 36
+
+-- the two blocks by the numbers that 2000h has for them
+abbrev pub POSITION : ℕ
+POSITION = 0
+
+abbrev pub PRESSURE : ℕ
+PRESSURE = 1

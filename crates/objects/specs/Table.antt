@@ -1,5 +1,5 @@
--- Document 01, "Objects", with the maps and the dither of wishes 2 and 4 of document 02: the table, a row for each value,
--- the stored settings first and in tag order.
+-- Document 01, "Objects", with the maps, the dither and the selection of wishes 2, 4 and 6 of document 02: the table, a row for each value,
+-- the stored settings first and in tag order. The rows of the position block are those of the pressure block too.
 use mathlib.Core.Bool.{Bool, _&&_, _||_}
 use mathlib.Core.List.{List, [], _∷_}
 use Prim.Native.Nat.{ℕ}
@@ -47,12 +47,15 @@ RO = 0
 abbrev RW : ℕ
 RW = 1
 
--- the lock: an object that can be written in every state, or in all but ACTIVE
+-- the lock: an object that can be written in every state, in all but ACTIVE, or in DISABLED alone
 abbrev pub FREE : ℕ
 FREE = 0
 
 abbrev pub WHILE-ACTIVE : ℕ
 WHILE-ACTIVE = 1
+
+abbrev pub OUTSIDE-DISABLED : ℕ
+OUTSIDE-DISABLED = 2
 
 -- the columns: index, sub-index, entries, type, size, access, low, high, fresh value, lock
 abbrev row : ℕ → ℕ → ℕ → ℕ → ℕ → ℕ → ℤ → ℤ → ℤ → ℕ → Columns
@@ -93,6 +96,7 @@ objects =
     row 0x1A00 3 MAP U32 4 RW (pos 0) (pos 4294967295) (pos 0) FREE ∷  -- entry 3
     row 0x1A00 4 MAP U32 4 RW (pos 0) (pos 4294967295) (pos 0) FREE ∷  -- entry 4
     row 0x6300 1 RECORD I16 2 RW (minus 32768) (pos 32767) (pos 0) FREE ∷  -- set point
+    row 0x2000 0 VARIABLE U8 1 RW (pos 0) (pos 1) (pos 0) OUTSIDE-DISABLED ∷  -- selection: the block that drives the command
     row 0x6040 0 VARIABLE U16 2 RW (pos 0) (pos 65535) (pos 0) FREE ∷  -- control word
     row 0x6041 0 VARIABLE U16 2 RO (pos 0) (pos 65535) (pos 0) FREE ∷  -- status word
     row 0x604E 0 VARIABLE U16 2 RO (pos 0) (pos 65535) (pos 0) FREE ∷  -- error code

@@ -3,6 +3,8 @@ pub const RECEIVE_MAP: u16 = 0x1600;
 
 pub const TRANSMIT_MAP: u16 = 0x1A00;
 
+pub const SELECTION: u16 = 0x2000;
+
 pub const CONTROL_WORD: u16 = 0x6040;
 
 pub const STATUS_WORD: u16 = 0x6041;
@@ -52,3 +54,6 @@ pub const DITHER_TYPE: u16 = 0x6360;
 pub const DITHER_AMPLITUDE: u16 = 0x6361;
 
 pub const DITHER_FREQUENCY: u16 = 0x6362;
+
+// How far the index of a pressure object stands above its counterpart's: `UPPER_LIMIT + ABOVE` is the pressure block's upper limit.
+pub const ABOVE: u16 = 0x80;

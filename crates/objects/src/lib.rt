@@ -1,10 +1,10 @@
-// The object table of document 01, with the maps and the dither of document 02. What is read, written, kept sound, stored and loaded goes by its rows.
+// The object table of document 01, with the maps, the dither and the two blocks of document 02. What is read, written, kept sound, stored and loaded goes by its rows.
 ghost use mathlib.Core.Path.{_≡_};
 ghost use Prim.Native.Nat.{_+_, _-_};
-ghost use Rattle.objects.specs.Table.{columnsAt, rowAt, liesIn, inRow};
+ghost use Rattle.objects.specs.Table.{objects, columnsAt, rowAt, liesIn, inRow};
 ghost use Rattle.objects.specs.Table as Table;
-ghost use Rattle.objects.specs.Lookup.{placeOf, recordEntry, entryAt};
-ghost use Rattle.objects.specs.Asked.{InTable, InRun};
+ghost use Rattle.objects.specs.Lookup.{blockNumber, placeFrom, placeOf, recordEntry, entryAt};
+ghost use Rattle.objects.specs.Asked.{InTable, InRun, InBlock};
 
 pub mod index;
 
@@ -85,20 +85,27 @@ pub const TRANSMIT_MAP: usize = 25;
 
 pub const SET_POINT: usize = 30;
 
-pub const CONTROL_WORD: usize = 31;
+pub const SELECTION: usize = 31;
 
-pub const STATUS_WORD: usize = 32;
+pub const CONTROL_WORD: usize = 32;
 
-pub const ERROR_CODE: usize = 33;
+pub const STATUS_WORD: usize = 33;
 
-pub const COMMAND: usize = 34;
+pub const ERROR_CODE: usize = 34;
+
+pub const COMMAND: usize = 35;
 
 // How many are stored settings, how many can be written, and how many there are.
 pub const SETTINGS: usize = 17;
 
-pub const WRITABLE: usize = 32;
+pub const WRITABLE: usize = 33;
 
-pub const ROWS: usize = 35;
+pub const ROWS: usize = 36;
+
+// The two blocks by their numbers. The rows of the position block are those of the pressure block too.
+pub const POSITION: u8 = 0;
+
+pub const PRESSURE: u8 = 1;
 
 // A row as the table prints it: index, sub-index, entries, type, size, access, low, high, fresh value, lock.
 pub struct Columns(
@@ -139,10 +146,12 @@ const RO: u8 = 0;
 
 const RW: u8 = 1;
 
-// The lock: an object that can be written in every state, or in all but ACTIVE.
+// The lock: an object that can be written in every state, in all but ACTIVE, or in DISABLED alone.
 pub const FREE: u8 = 0;
 
 pub const WHILE_ACTIVE: u8 = 1;
+
+pub const OUTSIDE_DISABLED: u8 = 2;
 
 const OBJECTS: [Columns; ROWS] = [
     Columns(0x6314, 1, RECORD, I16, 2, RW, -32768, 32767, 0, FREE), // hold set point
@@ -176,6 +185,7 @@ const OBJECTS: [Columns; ROWS] = [
     Columns(0x1A00, 3, MAP, U32, 4, RW, 0, 4294967295, 0, FREE), // entry 3
     Columns(0x1A00, 4, MAP, U32, 4, RW, 0, 4294967295, 0, FREE), // entry 4
     Columns(0x6300, 1, RECORD, I16, 2, RW, -32768, 32767, 0, FREE), // set point
+    Columns(0x2000, 0, VARIABLE, U8, 1, RW, 0, 1, 0, OUTSIDE_DISABLED), // selection
     Columns(0x6040, 0, VARIABLE, U16, 2, RW, 0, 65535, 0, FREE), // control word
     Columns(0x6041, 0, VARIABLE, U16, 2, RO, 0, 65535, 0, FREE), // status word
     Columns(0x604E, 0, VARIABLE, U16, 2, RO, 0, 65535, 0, FREE), // error code
@@ -224,7 +234,8 @@ fn columns_at(place: usize) -> Columns
         31 => table[31],
         32 => table[32],
         33 => table[33],
-        _ => table[34],
+        34 => table[34],
+        _ => table[35],
     }
 }
 
@@ -310,6 +321,7 @@ pub fn index_of(place: usize) -> u16
         20..=24 => index::RECEIVE_MAP,
         25..=29 => index::TRANSMIT_MAP,
         SET_POINT => index::SET_POINT,
+        SELECTION => index::SELECTION,
         CONTROL_WORD => index::CONTROL_WORD,
         STATUS_WORD => index::STATUS_WORD,
         ERROR_CODE => index::ERROR_CODE,
@@ -319,38 +331,93 @@ pub fn index_of(place: usize) -> u16
 
 // ---- from an index and a sub-index to a row and an entry
 
-// Where an index stands in the table: its first row.
+// Of which block an index is, and where it stands in the table: its first row.
 pub enum Place {
-    At(usize),
+    At { which: u8, place: usize },
     Nowhere,
 }
 
 // The place of an index in a run of consecutive ones that begins at this place and index.
-fn in_run(place: usize, from: u16, index: u16) -> Place
+fn in_run(which: u8, place: usize, from: u16, index: u16) -> Place
     requires { ⌜ InRun place from index ⌝ }
-    ensures { λ r. ⌜ r ≡ Place.At (place + (index - from)) ⌝ }
+    ensures { λ r. ⌜ r ≡ Place.At which (place + (index - from)) ⌝ }
 {
-    Place::At(place + (index - from) as usize)
+    Place::At {
+        which,
+        place: place + (index - from) as usize,
+    }
 }
 
-// The objects stand in runs of consecutive indexes, and so do their rows.
+// The place of an object of a block, by its index in the position block. The objects stand in runs of consecutive indexes, and so do
+// their rows.
+fn own_place(which: u8, index: u16) -> Place
+    requires { ⌜ InBlock index ⌝ }
+    ensures { λ r. ⌜ r ≡ placeFrom which 0 objects index ⌝ }
+{
+    match index {
+        0x6300 => Place::At {
+            which,
+            place: SET_POINT,
+        },
+        0x6310 => Place::At {
+            which,
+            place: COMMAND,
+        },
+        0x6314 => Place::At {
+            which,
+            place: HOLD_SET_POINT,
+        },
+        0x6320..=0x6324 => in_run(which, UPPER_LIMIT, 0x6320, index),
+        0x6330..=0x6336 => in_run(which, RAMP_TYPE, 0x6330, index),
+        0x6342..=0x6345 => in_run(which, DEAD_BAND_TYPE, 0x6342, index),
+        _ => Place::Nowhere,
+    }
+}
+
+// The place of any object, by its index or that of its counterpart.
+fn place_in(which: u8, index: u16) -> Place
+    ensures { λ r. ⌜ r ≡ placeFrom which 0 objects index ⌝ }
+{
+    match index {
+        0x1600 => Place::At {
+            which,
+            place: RECEIVE_MAP,
+        },
+        0x1A00 => Place::At {
+            which,
+            place: TRANSMIT_MAP,
+        },
+        0x2000 => Place::At {
+            which,
+            place: SELECTION,
+        },
+        0x6040..=0x6041 => in_run(which, CONTROL_WORD, 0x6040, index),
+        0x604E => Place::At {
+            which,
+            place: ERROR_CODE,
+        },
+        0x6300..=0x6345 => own_place(which, index),
+        0x6360..=0x6362 => in_run(which, DITHER_TYPE, 0x6360, index),
+        _ => Place::Nowhere,
+    }
+}
+
+// The block of which an index is: 6380h to 63C5h are those of the pressure block.
+fn block_number(index: u16) -> u8
+    ensures { λ r. ⌜ r ≡ blockNumber index ⌝ }
+{
+    match index {
+        0x6380..=0x63C5 => PRESSURE,
+        _ => POSITION,
+    }
+}
+
+// A pressure object has the place of its counterpart, 80h below it.
 pub fn place_of(index: u16) -> Place
     ensures { λ r. ⌜ r ≡ placeOf index ⌝ }
 {
-    match index {
-        0x1600 => Place::At(RECEIVE_MAP),
-        0x1A00 => Place::At(TRANSMIT_MAP),
-        0x6040..=0x6041 => in_run(CONTROL_WORD, 0x6040, index),
-        0x604E => Place::At(ERROR_CODE),
-        0x6300 => Place::At(SET_POINT),
-        0x6310 => Place::At(COMMAND),
-        0x6314 => Place::At(HOLD_SET_POINT),
-        0x6320..=0x6324 => in_run(UPPER_LIMIT, 0x6320, index),
-        0x6330..=0x6336 => in_run(RAMP_TYPE, 0x6330, index),
-        0x6342..=0x6345 => in_run(DEAD_BAND_TYPE, 0x6342, index),
-        0x6360..=0x6362 => in_run(DITHER_TYPE, 0x6360, index),
-        _ => Place::Nowhere,
-    }
+    let which = block_number(index);
+    place_in(which, index - index::ABOVE * which as u16)
 }
 
 // What stands at a sub-index: the value so many rows after the object's first, a byte that never changes, or nothing.

@@ -7,9 +7,9 @@ use native.Mathlib.Omega.{arith}
 use borrow.Author.Tests.{le-ltb}
 use lib.IntN.{pos}
 use Rattle.integers.specs.Words.{_among_}
-use Rattle.objects.specs.Places.{HOLD-SET-POINT, SET-POINT, CONTROL-WORD, COMMAND}
+use Rattle.objects.specs.Places.{HOLD-SET-POINT, SET-POINT, CONTROL-WORD, COMMAND, POSITION}
 use Rattle.objects.specs.Table.{objects, isSigned}
-use Rattle.objects.specs.Lookup.{placeFrom, placeOf, recordEntry, entryAt}
+use Rattle.objects.specs.Lookup.{blockNumber, placeFrom, placeOf, recordEntry, entryAt}
 use Rattle.coding.specs.Bytes.{fourOf}
 use Rattle.coding.specs.Coding.{span, inSpan, valueOf, numberOf, Held}
 use Rattle.coding.proofs.Laws.{number-below, value-typed, low-bytes}
@@ -17,38 +17,38 @@ use Rattle.coding.proofs.Rows.{row-held}
 use Rattle.block.specs.Block.{withSetting, withSetpoint}
 use Rattle.mapping.specs.Maps.{SENDABLE, indexOf, subOf}
 use Rattle.mapping.proofs.Sound.{one-of-three}
-use Rattle.device.specs.Device.{withBlock}
+use Rattle.device.specs.Device.{blockOf, withBlockOf}
 use Rattle.device.specs.Events.{controlled}
-use Rattle.device.specs.Queries.{statusOf, deviceCommand}
+use Rattle.device.specs.Queries.{statusOf, blockCommand}
 use Rattle.device.specs.declared.Device.{Device}
 use Rattle.device.proofs.Laws.{status-most}
 use Rattle.dictionary.specs.Named.{named}
 use Rattle.dictionary.specs.Values.{valueAt, writtenTo}
 use Rattle.dictionary.specs.Decide.{crosses, isLocked, mapRuling, readOf, readDecision, writeOf, writeDecision}
 use Rattle.dictionary.specs.declared.Decision.the-variants.{Read, Write}
-use Rattle.dictionary.proofs.Laws.{device-command-within, is-accepted}
+use Rattle.dictionary.proofs.Laws.{block-command-within, is-accepted}
 use Rattle.pdo.specs.Receive.{dataIn, acted}
 
 -- ---- received
 
 -- each object that may be received takes every value of two bytes, in every state
 module _ (d : Device) (n : ℕ) where
-  pub word-taken : writeDecision d 0x6040 0 2 n ≡ Write CONTROL-WORD (valueOf 2 false n)
-  unfolding writeDecision named placeOf placeFrom entryAt recordEntry objects writeOf isSigned crosses isLocked mapRuling span
+  pub word-taken : writeDecision d 0x6040 0 2 n ≡ Write POSITION CONTROL-WORD (valueOf 2 false n)
+  unfolding writeDecision named blockNumber placeOf placeFrom entryAt recordEntry objects writeOf isSigned crosses isLocked mapRuling span
   word-taken =
-      is-accepted {d = d} {place = CONTROL-WORD} {size = 2} {x = valueOf 2 false n}
+      is-accepted {d = d} {which = POSITION} {place = CONTROL-WORD} {size = 2} {x = valueOf 2 false n}
       (record { writable = refl; sized = refl; range = value-typed 2 false n .range; uncrossed = refl; unlocked = refl; unruled = refl })
 
-  pub set-point-taken : writeDecision d 0x6300 1 2 n ≡ Write SET-POINT (valueOf 2 true n)
-  unfolding writeDecision named placeOf placeFrom entryAt recordEntry objects writeOf isSigned crosses isLocked mapRuling span
+  pub set-point-taken : writeDecision d 0x6300 1 2 n ≡ Write POSITION SET-POINT (valueOf 2 true n)
+  unfolding writeDecision named blockNumber placeOf placeFrom entryAt recordEntry objects writeOf isSigned crosses isLocked mapRuling span
   set-point-taken =
-      is-accepted {d = d} {place = SET-POINT} {size = 2} {x = valueOf 2 true n}
+      is-accepted {d = d} {which = POSITION} {place = SET-POINT} {size = 2} {x = valueOf 2 true n}
       (record { writable = refl; sized = refl; range = value-typed 2 true n .range; uncrossed = refl; unlocked = refl; unruled = refl })
 
-  pub hold-set-point-taken : writeDecision d 0x6314 1 2 n ≡ Write HOLD-SET-POINT (valueOf 2 true n)
-  unfolding writeDecision named placeOf placeFrom entryAt recordEntry objects writeOf isSigned crosses isLocked mapRuling span
+  pub hold-set-point-taken : writeDecision d 0x6314 1 2 n ≡ Write POSITION HOLD-SET-POINT (valueOf 2 true n)
+  unfolding writeDecision named blockNumber placeOf placeFrom entryAt recordEntry objects writeOf isSigned crosses isLocked mapRuling span
   hold-set-point-taken =
-      is-accepted {d = d} {place = HOLD-SET-POINT} {size = 2} {x = valueOf 2 true n}
+      is-accepted {d = d} {which = POSITION} {place = HOLD-SET-POINT} {size = 2} {x = valueOf 2 true n}
       (record { writable = refl; sized = refl; range = value-typed 2 true n .range; uncrossed = refl; unlocked = refl; unruled = refl })
 
 -- of which the low two bytes count
@@ -64,11 +64,11 @@ module _ (d : Device) (bytes : List ℕ) where
   unfolding acted writtenTo valueOf span inSpan
   word-acted = rw (word-taken d (dataIn bytes))
 
-  pub set-point-acted : acted 0x63000110 bytes d ≡ withBlock (withSetpoint (valueOf 2 true (dataIn bytes)) (d .block)) d
+  pub set-point-acted : acted 0x63000110 bytes d ≡ withBlockOf POSITION (withSetpoint (valueOf 2 true (dataIn bytes)) (blockOf POSITION d)) d
   unfolding acted writtenTo
   set-point-acted = rw (set-point-taken d (dataIn bytes))
 
-  pub hold-set-point-acted : acted 0x63140110 bytes d ≡ withBlock (withSetting HOLD-SET-POINT (valueOf 2 true (dataIn bytes)) (d .block)) d
+  pub hold-set-point-acted : acted 0x63140110 bytes d ≡ withBlockOf POSITION (withSetting HOLD-SET-POINT (valueOf 2 true (dataIn bytes)) (blockOf POSITION d)) d
   unfolding acted writtenTo
   hold-set-point-acted = rw (hold-set-point-taken d (dataIn bytes))
 
@@ -82,20 +82,20 @@ positive-number size n = rw (le-ltb n 0 (omega arith))
 -- what a read of each gives
 module _ (d : Device) where
   pub status-read : readDecision d 0x6041 0 ≡ Read 2 (numberOf 2 (pos (statusOf d)))
-  unfolding readDecision named placeOf placeFrom entryAt recordEntry objects readOf valueAt
+  unfolding readDecision named blockNumber placeOf placeFrom entryAt recordEntry objects readOf valueAt
   status-read = refl
 
   pub error-read : readDecision d 0x604E 0 ≡ Read 2 (numberOf 2 (pos (d .error)))
-  unfolding readDecision named placeOf placeFrom entryAt recordEntry objects readOf valueAt
+  unfolding readDecision named blockNumber placeOf placeFrom entryAt recordEntry objects readOf valueAt
   error-read = refl
 
-  pub command-read : readDecision d 0x6310 1 ≡ Read 2 (numberOf 2 (deviceCommand d))
-  unfolding readDecision named placeOf placeFrom entryAt recordEntry objects readOf valueAt
+  pub command-read : readDecision d 0x6310 1 ≡ Read 2 (numberOf 2 (blockCommand POSITION d))
+  unfolding readDecision named blockNumber placeOf placeFrom entryAt recordEntry objects readOf valueAt
   command-read = refl
 
-  pub command-held : Held 2 (deviceCommand d)
+  pub command-held : Held 2 (blockCommand POSITION d)
   unfolding objects
-  command-held = row-held COMMAND {value = deviceCommand d} (omega arith) (device-command-within d)
+  command-held = row-held COMMAND {value = blockCommand POSITION d} (omega arith) (block-command-within POSITION d)
 
 -- it is a number of two bytes
 pub record ReadsTwo (d : Device) (entry : ℕ) : Type 0 where
@@ -112,7 +112,7 @@ module _ (d : Device) (e : d .error < 65536) where
 
   reads-command : ReadsTwo d 0x63100110
   unfolding span
-  reads-command = record { number = numberOf 2 (deviceCommand d); decision = command-read d; small = number-below (command-held d) }
+  reads-command = record { number = numberOf 2 (blockCommand POSITION d); decision = command-read d; small = number-below (command-held d) }
 
   pub reads-two : (entry : ℕ) → entry among SENDABLE ≡ true → ReadsTwo d entry
   reads-two entry h = one-of-three 0x60410010 0x604E0010 0x63100110 entry h (λ q. rw q reads-status) (λ q. rw q reads-error) (λ q. rw q reads-command)

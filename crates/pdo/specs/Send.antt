@@ -12,7 +12,7 @@ use Rattle.dictionary.specs.declared.Decision.the-variants.{Read, Write, Abort}
 -- the number that a read gives; 0 where it gives none
 abbrev pub numberRead : Decision → ℕ
 numberRead (Read size number) = number
-numberRead (Write place x) = 0
+numberRead (Write which place x) = 0
 numberRead (Abort code) = 0
 
 -- the bytes of an entry: as many as its length, of what a read of its index and sub-index gives

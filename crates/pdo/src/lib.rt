@@ -11,6 +11,7 @@ ghost use Rattle.pdo.specs.Send.{numberRead, sentBy, sentIn};
 ghost use Rattle.pdo.specs.Asked.{Acting, Telling, Putting, Sending};
 use device::Device;
 use objects::HOLD_SET_POINT;
+use objects::POSITION;
 
 // ---- receiving
 
@@ -34,11 +35,17 @@ fn act(device: Device, entry: u32, pdo: &[u8], at: usize) -> Device
 {
     let number = coding::two_of(coding::byte_at(pdo, at), coding::byte_at(pdo, at + 1));
     let value = coding::value_of(TWO_BYTES, true, number as u32);
-    let block = device.block;
     match entry {
         CONTROL_WORD => device::control(device, number),
-        SET_POINT => device::with_block(device, block::with_setpoint(block, value)),
-        _ => device::with_block(device, block::with_setting(block, HOLD_SET_POINT, value)),
+        SET_POINT => {
+            let block = device::block_of(device, POSITION);
+            device::with_block_of(device, POSITION, block::with_setpoint(block, value))
+        }
+        _ => {
+            let block = device::block_of(device, POSITION);
+            let block = block::with_setting(block, HOLD_SET_POINT, value);
+            device::with_block_of(device, POSITION, block)
+        }
     }
 }
 
@@ -72,7 +79,7 @@ fn number_of(device: Device, entry: u32) -> u32
     match entry {
         STATUS_WORD => device::status(device) as u32,
         ERROR_CODE => device.error as u32,
-        _ => coding::number_of(TWO_BYTES, device::command(device)),
+        _ => coding::number_of(TWO_BYTES, device::command_of(device, POSITION)),
     }
 }
 

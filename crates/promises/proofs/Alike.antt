@@ -1,4 +1,4 @@
--- A store and a load read a device's soundness, its state and its block alone. So a change beside these, f, makes no difference to what they answer.
+-- A store and a load read a device's soundness, its state and its blocks alone. So a change beside these, f, makes no difference to what they answer.
 use mathlib.Core.Bool.{not}
 use mathlib.Core.List.{List}
 use mathlib.Core.Path.{_≡_, ap, _∙_}
@@ -13,10 +13,10 @@ use Rattle.device.specs.Sound.{Sound}
 use Rattle.device.specs.declared.Device.{Device}
 use Rattle.image.specs.Fields.{IMAGE-LENGTH}
 use Rattle.image.specs.Load.{isFull, settingsIn}
-use Rattle.rainsheave.specs.Calls.{change, loaded, storeAnswer, storeRoom, loadAnswer}
+use Rattle.rainsheave.specs.Calls.{change, storedSettings, loaded, storeAnswer, storeRoom, loadAnswer}
 
 module _ {d : Device} (f : Device → Device) (s : Sound d) (t : Sound (f d)) where
-  pub stored-alike : f d .block .settings ≡ d .block .settings → (room : List ℕ) → (storeAnswer (f d) (length room) ≡ storeAnswer d (length room)) × (storeRoom (f d) room ≡ storeRoom d room)
+  pub stored-alike : storedSettings (f d) ≡ storedSettings d → (room : List ℕ) → (storeAnswer (f d) (length room) ≡ storeAnswer d (length room)) × (storeRoom (f d) room ≡ storeRoom d room)
   unfolding storeRoom storeAnswer
   stored-alike settings room =
       by-cases (ltb (length room) IMAGE-LENGTH)

@@ -30,7 +30,7 @@ use Rattle.sdo.specs.declared.Outcome.{Outcome}
 use Rattle.sdo.specs.declared.Outcome.the-variants.{Read, Written, Abort, Refused as Refuse}
 use Rattle.sdo.proofs.Frames.{frame-long}
 use Rattle.sdo.specs.declared.Request.{Request}
-use Rattle.rainsheave.specs.Calls.{change, changed, isClientAbort, sdoAnswer, sdoRoom, controlAnswer, faultAnswer, tickAnswer, jumpAnswer, queryAnswer}
+use Rattle.rainsheave.specs.Calls.{storedSettings, change, changed, isClientAbort, sdoAnswer, sdoRoom, controlAnswer, faultAnswer, tickAnswer, jumpAnswer, queryAnswer}
 use Rattle.pdo.specs.Send.{sent, sentIn}
 use Rattle.pdo.proofs.Laws.{sent-length}
 use Rattle.rainsheave.specs.Calls.{receiveAnswer, sendAnswer, sendRoomBy, sendRoom, storeAnswer, roomBy, storeRoom, loadAnswer, numberOfReport}
@@ -52,7 +52,7 @@ served-number d q = by (decisionOn d q)
   where
     by : (v : Decision) → numberHandedBack (outcomeOf v) ≡ 0
     by (Reading size n) = refl
-    by (Write place x) = refl
+    by (Write which place x) = refl
     by (Aborting code) = refl
 
 sdo-ordered : (d : Device) (request room : List ℕ) → number (sdo request room) d ≡ first (refusals (sdo request room) d)
@@ -208,7 +208,7 @@ unfolding storeRoom storedIn
 store-later d room = by (storeAnswer d (length room))
   where
     by : (r : Report) → drop IMAGE-LENGTH (roomBy r d room) ≡ drop IMAGE-LENGTH room
-    by Done = drop-at (imageOf (d .block .settings)) _ IMAGE-LENGTH (image-length (d .block .settings))
+    by Done = drop-at (imageOf (storedSettings d)) _ IMAGE-LENGTH (image-length (storedSettings d))
     by (Refused n) = refl
 
 later : (c : Call) (d : Device) → drop (writes c d) (left c d) ≡ drop (writes c d) (lent c)

@@ -2,7 +2,7 @@
 use mathlib.Core.Bool.{Bool, true, false}
 use mathlib.Core.Logic.{_≢_}
 use mathlib.Core.Path.{_≡_, refl, sym, ap, _∙_}
-use Prim.Native.Nat.{ℕ, zero, suc, _*_, _/_, _%_, _≤_, _<_}
+use Prim.Native.Nat.{ℕ, zero, suc, _*_, _%_, _≤_, _<_}
 use native.Mathlib.Omega.{arith}
 use borrow.Author.Tests.{eqb-true}
 use lib.Dec.{eqb}
@@ -19,7 +19,7 @@ use Rattle.block.proofs.Travel.{block-demand3}
 use Rattle.device.specs.Device.{withControl, isActive}
 use Rattle.device.specs.Events.{entering, controlled, tickDeviceTimes}
 use Rattle.device.specs.Queries.{targetMet, statusOf, deviceTarget, deviceTicksToGo}
-use Rattle.device.specs.Sound.{soundDevice, rests, Sound}
+use Rattle.device.specs.Sound.{soundDevice, rests, selectionFits, Sound}
 use Rattle.device.specs.Demand.{devicePositionAfter, deviceTargetPosition}
 use Rattle.device.specs.declared.Device.{Device}
 use Rattle.device.proofs.Laws.{block-of-sound, tick-sound}
@@ -107,7 +107,7 @@ module _ {d : Device} (s : Sound d) where
       (λ k. unfold opposite in rw k)
 
   still-sound : (word : ℕ) → soundDevice (withControl word d) ≡ true
-  unfolding soundDevice rests
+  unfolding soundDevice selectionFits rests
   still-sound word = s .sound
 
   high-bits : (word : ℕ) → withControl (word % 16) (controlAnswer d word .device) ≡ controlAnswer d (word % 16) .device

@@ -14,9 +14,9 @@ use Rattle.integers.specs.Range.{Within}
 use Rattle.integers.proofs.Linear.{ints, neg-nat, sub-nat}
 use Rattle.integers.proofs.Cases.{by-cases, by-test, by-less}
 use Rattle.integers.proofs.Each.{and-split}
-use Rattle.objects.specs.Places.{DITHER-TYPE, DITHER-AMPLITUDE, DITHER-FREQUENCY, DEAD-BAND-TYPE, THRESHOLD, ROWS}
+use Rattle.objects.specs.Places.{DITHER-TYPE, DITHER-AMPLITUDE, DITHER-FREQUENCY, DEAD-BAND-TYPE, THRESHOLD, ROWS, POSITION}
 use Rattle.objects.specs.Table.{objects, isSigned, isChoice, rowAt}
-use Rattle.objects.specs.Lookup.{placeFrom, placeOf, recordEntry, entryAt}
+use Rattle.objects.specs.Lookup.{blockNumber, placeFrom, placeOf, recordEntry, entryAt}
 use Rattle.coding.specs.Bytes.{fourOf, fourBytes}
 use Rattle.coding.specs.Coding.{span, inSpan, valueOf}
 use Rattle.block.specs.Block.{setting}
@@ -29,12 +29,12 @@ use Rattle.dither.specs.Wave.{square, height, triangle, ditherOf}
 use Rattle.dither.specs.declared.Dither.{Dither}
 use Rattle.dither.proofs.Laws.{dither-parts, wave-within}
 use Rattle.device.specs.States.{ACTIVE, driven}
-use Rattle.device.specs.Device.{freshDevice, withDither}
+use Rattle.device.specs.Device.{freshDevice, withDither, blockOf}
 use Rattle.device.specs.Demand.{devicePositionAfter}
 use Rattle.device.specs.Queries.{targetMet, statusOf, deviceTarget, deviceCommand, deviceTicksToGo}
 use Rattle.device.specs.Sound.{rests, Sound}
 use Rattle.device.specs.declared.Device.{Device}
-use Rattle.device.proofs.Laws.{device-parts, dither-of-sound}
+use Rattle.device.proofs.Laws.{device-parts, dither-of-sound, with-block-of-beside, with-block-of-dither}
 use Rattle.device.proofs.Travel.{jump-driven}
 use Rattle.dictionary.specs.Named.{value, byte, nothing, entered, named}
 use Rattle.dictionary.specs.Decide.{crosses, isLocked, verdictOn, writeOf, writeDecision}
@@ -53,7 +53,7 @@ use Rattle.promises.specs.Demand3.{ticks}
 use Rattle.promises.specs.WriteLength.{Aborted}
 use Rattle.promises.specs.Dithering.{phaseAfter, DitherObjects, Dithering}
 use Rattle.promises.proofs.Alike.{stored-alike, loaded-alike}
-use Rattle.promises.proofs.Requests.{is-named, frame-answered}
+use Rattle.promises.proofs.Requests.{row-named, frame-answered}
 use Rattle.promises.proofs.WriteLength.{abort-replied}
 use Rattle.promises.proofs.Demand3.{is-told, ticks-jump}
 use Rattle.promises.proofs.ProcessData as ProcessData
@@ -148,17 +148,17 @@ module _ {d : Device} (s : Sound d) where
 
   -- a write to a place whose verdict is an abort
   module _ (cmd place : ℕ) (b : Data) (room : List ℕ) (code : ℕ) (h : place < ROWS) (asks : asksOf cmd ≡ Writes (rowAt place .size)) (due : isClientAbort cmd ≡ false) where
-    abbrev Verdict : Type 0
-    Verdict = verdictOn d place (rowAt place .size) (valueOf (rowAt place .size) (rowAt place .signed) (fourOf (b .one) (b .two) (b .three) (b .four))) ≡ Abort code
+    abbrev pub Verdict : Type 0
+    Verdict = verdictOn d POSITION place (rowAt place .size) (valueOf (rowAt place .size) (rowAt place .signed) (fourOf (b .one) (b .two) (b .three) (b .four))) ≡ Abort code
 
-    abbrev bytes : List ℕ
+    abbrev pub bytes : List ℕ
     bytes = frame cmd (rowAt place .index) (rowAt place .sub) (list b)
 
-    refused : Verdict → 8 ≤ length room → Aborted d bytes room code (fourBytes code)
+    pub refused : Verdict → 8 ≤ length room → Aborted d bytes room code (fourBytes code)
     unfolding served decisionOn writeDecision writeOf
     refused verdict l =
         let outcome : sdoAnswer d bytes (length room) .outcome ≡ Outcome.Abort code =
-        ap (λ (a : Answer). a .outcome) (frame-answered s cmd (rowAt place .index) (rowAt place .sub) b (length room) due l) ∙ rw (asks, is-named place h, verdict) in
+        ap (λ (a : Answer). a .outcome) (frame-answered s cmd (rowAt place .index) (rowAt place .sub) b (length room) due l) ∙ rw (asks, row-named place h, verdict) in
         record { outcome = outcome; reply = abort-replied d bytes room code outcome }
 
 -- ---- the verdicts
@@ -178,7 +178,7 @@ two-stand n a b l = let low : fourOf (n % 256) (n / 256) a b % 65536 ≡ n = ome
 
 module _ (d : Device) where
   -- of one byte every number from 3 on is another type: too high below 128, and below zero from there
-  type-verdict : (n a b c : ℕ) → 3 ≤ n → n < 256 → verdictOn d DITHER-TYPE 1 (valueOf 1 true (fourOf n a b c)) ≡ Abort 0x06090030
+  type-verdict : (n a b c : ℕ) → 3 ≤ n → n < 256 → verdictOn d POSITION DITHER-TYPE 1 (valueOf 1 true (fourOf n a b c)) ≡ Abort 0x06090030
   unfolding verdictOn objects isSigned isChoice
   type-verdict n a b c h l =
       by-less n 128
@@ -189,16 +189,16 @@ module _ (d : Device) where
       let low : ltZ z (pos 0) ≡ true = omega (arith, ints, sub-nat (pos n) (pos 256)) in
       rw (large-stands n a b c k l, high, low))
 
-  amplitude-verdict : (n : ℕ) → 1025 ≤ n → verdictOn d DITHER-AMPLITUDE 2 (pos n) ≡ Abort 0x06090031
+  amplitude-verdict : (n : ℕ) → 1025 ≤ n → verdictOn d POSITION DITHER-AMPLITUDE 2 (pos n) ≡ Abort 0x06090031
   unfolding verdictOn objects isSigned isChoice
   amplitude-verdict n h = let high : ltZ (pos 1024) (pos n) ≡ true = omega (arith, ints) in rw high
 
-  frequency-verdict : (n : ℕ) → 251 ≤ n → verdictOn d DITHER-FREQUENCY 2 (pos n) ≡ Abort 0x06090031
+  frequency-verdict : (n : ℕ) → 251 ≤ n → verdictOn d POSITION DITHER-FREQUENCY 2 (pos n) ≡ Abort 0x06090031
   unfolding verdictOn objects isSigned isChoice
   frequency-verdict n h = let high : ltZ (pos 250) (pos n) ≡ true = omega (arith, ints) in rw high
 
   -- a value in its range is locked in ACTIVE
-  locked-verdict : (place n : ℕ) (most : ℕ) → d .state ≡ ACTIVE → rowAt place .writable ≡ true → rowAt place .low ≡ pos 0 → rowAt place .high ≡ pos most → rowAt place .lock ≡ 1 → crosses d place (pos n) ≡ false → n ≤ most → verdictOn d place (rowAt place .size) (pos n) ≡ Abort 0x08000022
+  locked-verdict : (place n : ℕ) (most : ℕ) → d .state ≡ ACTIVE → rowAt place .writable ≡ true → rowAt place .low ≡ pos 0 → rowAt place .high ≡ pos most → rowAt place .lock ≡ 1 → crosses (blockOf POSITION d) place (pos n) ≡ false → n ≤ most → verdictOn d POSITION place (rowAt place .size) (pos n) ≡ Abort 0x08000022
   unfolding verdictOn isLocked
   locked-verdict place n most active writable low high lock uncrossed l =
       let h : ltZ (pos most) (pos n) ≡ false = omega (arith, ints) in
@@ -207,21 +207,21 @@ module _ (d : Device) where
 
 -- ---- the objects
 
-of-variable : (place sub : ℕ) → entered place (entryAt 0 sub) ≡ (if sub is 0 then value place else nothing 0x06090011)
+of-variable : (place sub : ℕ) → entered POSITION place (entryAt 0 sub) ≡ (if sub is 0 then value POSITION place else nothing 0x06090011)
 unfolding entryAt
 of-variable place sub =
     by-less 0 sub (λ l. rw (lt-ltb 0 sub l, ne-eqb sub 0 (λ e. omega arith)))
-    (λ l. let none : sub ≡ 0 = omega arith in rw none (ap value (omega arith)))
+    (λ l. let none : sub ≡ 0 = omega arith in rw none (ap (value POSITION) (omega arith)))
 
-of-record : (place sub : ℕ) → entered place (entryAt 1 sub) ≡ (if sub is 0 then byte 1 else if sub is 1 then value place else nothing 0x06090011)
+of-record : (place sub : ℕ) → entered POSITION place (entryAt 1 sub) ≡ (if sub is 0 then byte 1 else if sub is 1 then value POSITION place else nothing 0x06090011)
 unfolding entryAt recordEntry
 of-record place sub =
     by-less 1 sub (λ l. rw (lt-ltb 1 sub l, ne-eqb sub 0 (λ e. omega arith), ne-eqb sub 1 (λ e. omega arith)))
     (λ l. by-cases (sub is 0) (λ e. rw (le-ltb 1 sub l, e))
-    (λ e. let one : sub ≡ 1 = omega (arith, eqb-false sub 0 e) in rw one (ap value (omega arith))))
+    (λ e. let one : sub ≡ 1 = omega (arith, eqb-false sub 0 e) in rw one (ap (value POSITION) (omega arith))))
 
 pub dither-objects : DitherObjects
-unfolding freshDevice freshDither objects named placeOf placeFrom
+unfolding freshDevice freshDither objects named blockNumber placeOf placeFrom
 dither-objects = record { fresh-zeros = refl; of-6360 = of-variable DITHER-TYPE; of-6361 = of-record DITHER-AMPLITUDE; of-6362 = of-record DITHER-FREQUENCY }
 
 pub dithering : {d : Device} → Sound d → Dithering d
@@ -244,9 +244,9 @@ dithering {d} s =
       inside-band = inside-band s;
       queries-alike = unknown s;
       formula-alike = λ h n. unfold devicePositionAfter in refl;
-      stored-alike = λ h room t. stored-alike (withDither h) s t refl room;
-      loaded-alike = λ h image t. loaded-alike (withDither h) s t refl image refl;
-      load-keeps = λ image. by-load (λ c. c .device .dither ≡ d .dither) d image (λ number. refl) (λ full sound. refl);
+      stored-alike = λ h room t. stored-alike (withDither h) s t (unfold blockOf in refl) room;
+      loaded-alike = λ h image t. loaded-alike (withDither h) s t refl image (unfold blockOf in with-block-of-dither POSITION _ h d);
+      load-keeps = λ image. by-load (λ c. c .device .dither ≡ d .dither) d image (λ number. refl) (λ full sound. with-block-of-beside POSITION _ d .dither);
       receive-keeps = λ pdo. ProcessData.received-beside d pdo s .dither;
       no-such-type = λ n a b c room h l m. refused s 0x2F DITHER-TYPE (record { one = n; two = a; three = b; four = c }) room 0x06090030 (omega arith) refl refl (type-verdict d n a b c h l) m;
       amplitude-too-high = λ n a b room h l m. refused s 0x2B DITHER-AMPLITUDE (record { one = n % 256; two = n / 256; three = a; four = b }) room 0x06090031 (omega arith) refl refl (rw (two-stand n a b l) (amplitude-verdict d n h)) m;

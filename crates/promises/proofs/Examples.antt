@@ -2,7 +2,7 @@
 use mathlib.Core.Path.{refl}
 use Rattle.integers.specs.Words.{each}
 use Rattle.objects.specs.Table.{objects, isSigned, liesIn}
-use Rattle.objects.specs.Lookup.{placeFrom, placeOf, recordEntry, entryAt}
+use Rattle.objects.specs.Lookup.{placeFrom, placeOf, recordEntry, entryAt, blockNumber}
 use Rattle.coding.specs.Bytes.{fourBytes}
 use Rattle.coding.specs.Coding.{span, inSpan, valueOf, numberOf}
 use Rattle.ramp.specs.Ramp.{awayTime, backTime, stepOf, opposite, decelerates, distance, toward, moved, halts, stop, stride, tickOf, roundedUp, ticksToZero, ticksToGo}
@@ -11,9 +11,9 @@ use Rattle.block.specs.Command.{wholeOf, banded, bandedBy, bandedOf, commandOf}
 use Rattle.block.specs.Sound.{soundSettings, soundBlock}
 use Rattle.block.specs.Target.{inputOf, clampTo, clampToStroke, scaledBy, targetFrom, targetOf, targetPosition}
 use Rattle.block.specs.Travel.{tickBlock, ticksToGoOf}
-use Rattle.device.specs.Device.{freshDevice}
+use Rattle.device.specs.Device.{freshDevice, blockOf, withBlockOf}
 use Rattle.device.specs.Events.{blockIn, ditherIn, errorIn, entering, controlled, reported, faulted, tickDevice}
-use Rattle.device.specs.Queries.{targetMet, statusOf, deviceTarget, deviceCommand, deviceTicksToGo}
+use Rattle.device.specs.Queries.{targetMet, statusOf, deviceTarget, deviceCommand, deviceTicksToGo, blockCommand}
 use Rattle.dither.specs.Dither.{freshDither}
 use Rattle.dither.specs.Dither as Dithers
 use Rattle.dither.specs.Phase.{increment, advanced, tickDither}
@@ -22,7 +22,7 @@ use Rattle.dither.specs.Wave.{square, height, triangle, ditherOf}
 use Rattle.mapping.specs.Maps.{withAt, mapLength, freshMap, freshMaps}
 use Rattle.mapping.specs.Rules.{eachMapped, isRight, rulingOn}
 use Rattle.mapping.specs.Sound.{mayStand, soundMap, soundMaps}
-use Rattle.device.specs.Sound.{isState, errorFits, rests, soundDevice}
+use Rattle.device.specs.Sound.{isState, errorFits, rests, soundDevice, selectionFits}
 use Rattle.device.specs.States.{fromDisabled, fromHold, fromActive, fromFault, nextState, driven}
 use Rattle.dictionary.specs.Decide.{crosses, isLocked, mapRuling, verdictOn, readOf, readDecision, writeOf, writeDecision}
 use Rattle.dictionary.specs.Named.{named}
@@ -37,7 +37,7 @@ use Rattle.promises.specs.History.{afterAll, altersNothing}
 use Rattle.promises.specs.Examples.{Examples, Witnesses}
 
 pub examples : Examples
-unfolding each objects isSigned placeFrom placeOf recordEntry entryAt fourBytes span inSpan valueOf awayTime backTime stepOf opposite decelerates distance toward moved halts stop stride tickOf roundedUp ticksToZero ticksToGo freshBlock freshDither increment advanced tickDither soundDither ditherOf square height triangle wholeOf banded bandedBy bandedOf commandOf liesIn soundSettings soundBlock inputOf clampTo clampToStroke scaledBy targetFrom targetOf targetPosition tickBlock ticksToGoOf freshDevice blockIn ditherIn errorIn entering controlled reported faulted tickDevice deviceTarget deviceCommand deviceTicksToGo isState errorFits rests soundDevice freshMap freshMaps mayStand soundMap soundMaps fromDisabled fromHold fromFault nextState driven crosses isLocked mapRuling verdictOn writeOf writeDecision named writtenTo asksOf frameOf repliedIn decisionOn served tickAnswer queryAnswer sdoAnswer sdoRoom controlAnswer faultAnswer afterAll
+unfolding each objects isSigned blockNumber placeFrom placeOf recordEntry entryAt fourBytes span inSpan valueOf awayTime backTime stepOf opposite decelerates distance toward moved halts stop stride tickOf roundedUp ticksToZero ticksToGo freshBlock freshDither increment advanced tickDither soundDither ditherOf square height triangle wholeOf banded bandedBy bandedOf commandOf liesIn soundSettings soundBlock inputOf clampTo clampToStroke scaledBy targetFrom targetOf targetPosition tickBlock ticksToGoOf freshDevice blockOf withBlockOf blockIn ditherIn errorIn entering controlled reported faulted tickDevice deviceTarget deviceCommand blockCommand deviceTicksToGo isState errorFits rests selectionFits soundDevice freshMap freshMaps mayStand soundMap soundMaps fromDisabled fromHold fromFault nextState driven crosses isLocked mapRuling verdictOn writeOf writeDecision named writtenTo asksOf frameOf repliedIn decisionOn served tickAnswer queryAnswer sdoAnswer sdoRoom controlAnswer faultAnswer afterAll
 examples =
     record {
       limits = refl;
@@ -62,7 +62,7 @@ examples =
     }
 
 pub witnesses : Witnesses
-unfolding each objects isSigned placeFrom placeOf recordEntry entryAt fourBytes span inSpan valueOf awayTime backTime stepOf opposite decelerates distance toward moved halts stop stride tickOf roundedUp ticksToZero ticksToGo freshBlock freshDither increment advanced tickDither soundDither ditherOf square height triangle wholeOf banded bandedBy bandedOf commandOf liesIn soundSettings soundBlock inputOf clampTo clampToStroke scaledBy targetFrom targetOf targetPosition tickBlock ticksToGoOf freshDevice blockIn ditherIn errorIn entering controlled reported faulted tickDevice deviceTarget deviceCommand deviceTicksToGo isState errorFits rests soundDevice freshMap freshMaps mayStand soundMap soundMaps fromDisabled fromHold fromFault nextState driven crosses isLocked mapRuling verdictOn writeOf writeDecision named writtenTo asksOf frameOf repliedIn decisionOn served tickAnswer queryAnswer sdoAnswer sdoRoom controlAnswer faultAnswer afterAll fromActive altersNothing withAt eachMapped isRight rulingOn mapLength acted received sentBy sent sentIn readOf readDecision numberOf valueAt targetMet statusOf receiveAnswer sendAnswer sendRoom Dithers.withAt
+unfolding each objects isSigned blockNumber placeFrom placeOf recordEntry entryAt fourBytes span inSpan valueOf awayTime backTime stepOf opposite decelerates distance toward moved halts stop stride tickOf roundedUp ticksToZero ticksToGo freshBlock freshDither increment advanced tickDither soundDither ditherOf square height triangle wholeOf banded bandedBy bandedOf commandOf liesIn soundSettings soundBlock inputOf clampTo clampToStroke scaledBy targetFrom targetOf targetPosition tickBlock ticksToGoOf freshDevice blockOf withBlockOf blockIn ditherIn errorIn entering controlled reported faulted tickDevice deviceTarget deviceCommand blockCommand deviceTicksToGo isState errorFits rests selectionFits soundDevice freshMap freshMaps mayStand soundMap soundMaps fromDisabled fromHold fromFault nextState driven crosses isLocked mapRuling verdictOn writeOf writeDecision named writtenTo asksOf frameOf repliedIn decisionOn served tickAnswer queryAnswer sdoAnswer sdoRoom controlAnswer faultAnswer afterAll fromActive altersNothing withAt eachMapped isRight rulingOn mapLength acted received sentBy sent sentIn readOf readDecision numberOf valueAt targetMet statusOf receiveAnswer sendAnswer sendRoom Dithers.withAt
 witnesses =
     record {
       longest = refl;

@@ -14,7 +14,7 @@ use Rattle.integers.proofs.Cases.{by-cases, by-test, by-less, clash, apart}
 use Rattle.integers.proofs.Each.{and-split, each-at}
 use Rattle.objects.specs.Places.{CONTROL-WORD}
 use Rattle.objects.specs.Table.{objects}
-use Rattle.objects.specs.Lookup.{placeFrom, placeOf, entryAt}
+use Rattle.objects.specs.Lookup.{blockNumber, placeFrom, placeOf, entryAt}
 use Rattle.mapping.specs.Maps.{entryOf, mapLength}
 use Rattle.device.specs.Sound.{soundDevice, Sound}
 use Rattle.device.specs.Kept.{SameSettings}
@@ -105,9 +105,9 @@ module _ {d : Device} (s : Sound d) where
 -- ---- what alters nothing keeps settings, set point, maps and dither
 
 -- 6040h names the control word alone
-names-control : (sub place : ℕ) → named 0x6040 sub ≡ value place → place ≡ CONTROL-WORD
-unfolding named placeOf placeFrom entryAt objects
-names-control sub place e = by-less 0 sub (λ l. let f = rw (lt-ltb 0 sub l) at e in apart (cc)) (λ l. let z : sub ≡ 0 = omega arith in let f = rw z at e in (cc))
+names-control : (sub which place : ℕ) → named 0x6040 sub ≡ value which place → place ≡ CONTROL-WORD
+unfolding named blockNumber placeOf placeFrom entryAt objects
+names-control sub which place e = by-less 0 sub (λ l. let f = rw (lt-ltb 0 sub l) at e in apart (cc)) (λ l. let z : sub ≡ 0 = omega arith in let f = rw z at e in (cc))
 
 is-written : (o : Outcome) → isWritten o ≡ true → o ≡ Written
 is-written (Read size n) e = clash e refl
@@ -120,7 +120,7 @@ module _ (d : Device) where
   unfolding writtenTo
   control-keeps q i w =
       let a = acknowledged d q w in
-      let p : a .place ≡ CONTROL-WORD = names-control (q .sub) (a .place) (rw (← i) (a .origin .found)) in
+      let p : a .place ≡ CONTROL-WORD = names-control (q .sub) (a .which) (a .place) (rw (← i) (a .origin .found)) in
       rw (a .device, p) (controlled-keeps (natAbs (a .x)) d)
 
   sdo-keeps : (request room : List ℕ) → alters (sdo request room) d ≡ false → SameSettings (after (sdo request room) d) d

@@ -12,3 +12,4 @@ pub mod MapWrites
 pub mod ProcessData
 pub mod Dithering
 pub mod Examples
+pub mod Pressure

@@ -12,7 +12,7 @@ use Rattle.integers.proofs.Cases.{by-cases, by-less, apart}
 use Rattle.integers.proofs.Each.{and-split, and-both, each-at, each-all}
 use Rattle.objects.specs.Places.{UPPER-LIMIT, LOWER-LIMIT, SETTINGS, RECEIVE-MAP, TRANSMIT-MAP, SET-POINT, WRITABLE}
 use Rattle.objects.specs.Table.{objects, isSigned, rowAt, InRange}
-use Rattle.objects.specs.Lookup.{placeFrom, placeOf, entryAt}
+use Rattle.objects.specs.Lookup.{blockNumber, Object, placeFrom, placeOf, entryAt}
 use Rattle.coding.specs.Bytes.{byteOf, fourOf, fourBytes}
 use Rattle.coding.specs.Coding.{span, inSpan, valueOf}
 use Rattle.coding.proofs.Bytes.{four-back}
@@ -23,15 +23,15 @@ use Rattle.mapping.specs.declared.Map.{Map}
 use Rattle.mapping.specs.declared.Maps.{Maps}
 use Rattle.mapping.specs.declared.Ruling.{Ruling}
 use Rattle.mapping.specs.declared.Ruling.the-variants.{Accepted, WhileCounted, AboveFour, NotMappable}
-use Rattle.device.specs.Device.{freshDevice, withMaps}
-use Rattle.device.specs.Queries.{statusOf, deviceCommand, targetMet}
+use Rattle.device.specs.Device.{freshDevice, withMaps, blockOf}
+use Rattle.device.specs.Queries.{statusOf, deviceCommand, blockCommand, targetMet}
 use Rattle.device.specs.Sound.{Sound}
 use Rattle.device.specs.declared.Device.{Device}
 use Rattle.device.proofs.Laws.{fresh-sound, receive-parts, transmit-parts}
 use Rattle.dictionary.specs.Named.{value, named, Named, byte, nothing}
 use Rattle.dictionary.specs.Values.{valueAt, writtenTo}
 use Rattle.dictionary.specs.Decide.{crosses, isLocked, mapRuling, ruled, readOf, readDecision, writeOf, writeDecision, carriedOut}
-use Rattle.dictionary.proofs.Laws.{each-row-is-named, ruled-last, InTable, named-in-table}
+use Rattle.dictionary.proofs.Laws.{ruled-last, InTable, named-in-table}
 use Rattle.sdo.specs.Frames.{asksOf, frameOf, readReply, repliedIn}
 use Rattle.sdo.specs.Serve.{answer, decisionOn, outcomeOf, served}
 use Rattle.sdo.specs.declared.Asks.the-variants.{Writes}
@@ -48,14 +48,14 @@ use Rattle.promises.specs.Calls.{sdo, after}
 use Rattle.promises.specs.Demand2.{Data, frame, reading}
 use Rattle.promises.specs.ProcessData.{Direction, receiving, sending, mapIndex, mapPlace, mappable, mapOf, writeEntry, writeCount, entryOutcome, countOutcome, mapOutcome}
 use Rattle.promises.specs.ProcessData.{mapWritten, doneWhere, zeros, calls, allWritten, making, makingBoth}
-use Rattle.promises.proofs.Requests.{request, frame-answered}
+use Rattle.promises.proofs.Requests.{request, row-named, frame-answered}
 use Rattle.promises.proofs.Demand2.{read-replied, read-alike}
 use Rattle.promises.proofs.History.{all-sound}
 use mathlib.Core.Logic.{_≢_}
 use Rattle.pdo.proofs.Objects.{positive-number}
 use Rattle.mapping.proofs.Laws.{at-written}
 use Rattle.dictionary.proofs.Written.{others-are-kept}
-use Rattle.objects.specs.Places.{ROWS}
+use Rattle.objects.specs.Places.{ROWS, SELECTION, POSITION}
 
 -- ---- the rows of a map
 
@@ -93,12 +93,19 @@ in-table : (w : Direction) (k : ℕ) → k ≤ ENTRIES → mapPlace w + k < WRIT
 in-table receiving k h = omega arith
 in-table sending k h = omega arith
 
+map-object : (w : Direction) (k : ℕ) → k ≤ ENTRIES → Object POSITION (mapPlace w + k)
+map-object w k h = record { row = omega (arith, in-table w k h); block = omega arith; own = λ p. absurd (omega (arith, p)) }
+
+no-selection : (w : Direction) (k : ℕ) → k ≤ ENTRIES → mapPlace w + k ≢ SELECTION
+no-selection receiving k h e = omega arith
+no-selection sending k h e = omega arith
+
 -- what they name
-is-named : (w : Direction) (k : ℕ) → k ≤ ENTRIES → named (mapIndex w) k ≡ value (mapPlace w + k)
+is-named : (w : Direction) (k : ℕ) → k ≤ ENTRIES → named (mapIndex w) k ≡ value POSITION (mapPlace w + k)
 is-named w k h =
     let r = row w k h in
     let l = in-table w k h in
-    rw (r .index, r .sub) at (each-row-is-named (mapPlace w + k) (omega arith))
+    rw (r .index, r .sub) at (row-named (mapPlace w + k) (omega arith))
 
 -- their range
 in-range : (w : Direction) (k n : ℕ) → k ≤ ENTRIES → n ≤ mostAt k → InRange (mapPlace w + k) (pos n)
@@ -118,7 +125,7 @@ ruling-of sending d k n h =
     rw (le-ltb (TRANSMIT-MAP + k) RECEIVE-MAP (omega arith), le-ltb (TRANSMIT-MAP + k) TRANSMIT-MAP (omega arith), lt-ltb (TRANSMIT-MAP + k) SET-POINT (omega arith), e)
 
 -- and what is written goes there
-written-of : (w : Direction) (d : Device) (k n : ℕ) → k ≤ ENTRIES → writtenTo (mapPlace w + k) (pos n) d ≡ mapWritten w k n d
+written-of : (w : Direction) (d : Device) (k n : ℕ) → k ≤ ENTRIES → writtenTo POSITION (mapPlace w + k) (pos n) d ≡ mapWritten w k n d
 unfolding writtenTo
 written-of receiving d k n h =
     let e : (RECEIVE-MAP + k) - RECEIVE-MAP ≡ k = omega arith in
@@ -128,31 +135,31 @@ written-of sending d k n h =
     rw (le-ltb (TRANSMIT-MAP + k) SETTINGS (omega arith), le-ltb (TRANSMIT-MAP + k) RECEIVE-MAP (omega arith), le-ltb (TRANSMIT-MAP + k) TRANSMIT-MAP (omega arith), lt-ltb (TRANSMIT-MAP + k) SET-POINT (omega arith), e)
 
 -- a map is no limit
-uncrossed : (w : Direction) (d : Device) (k : ℕ) (x : ℤ) → crosses d (mapPlace w + k) x ≡ false
+uncrossed : (w : Direction) (d : Device) (k : ℕ) (x : ℤ) → crosses (blockOf POSITION d) (mapPlace w + k) x ≡ false
 unfolding crosses
 uncrossed receiving d k x = rw (ne-eqb (RECEIVE-MAP + k) UPPER-LIMIT (λ e. omega arith), ne-eqb (RECEIVE-MAP + k) LOWER-LIMIT (λ e. omega arith))
 uncrossed sending d k x = rw (ne-eqb (TRANSMIT-MAP + k) UPPER-LIMIT (λ e. omega arith), ne-eqb (TRANSMIT-MAP + k) LOWER-LIMIT (λ e. omega arith))
 
 -- the outcome of a ruling, and the device after it
 abbrev answerBy : Ruling → Device → Device → Answer
-answerBy Accepted written d = answer (outcomeOf (ruled Accepted 0 (pos 0))) written
-answerBy WhileCounted written d = answer (outcomeOf (ruled WhileCounted 0 (pos 0))) d
-answerBy AboveFour written d = answer (outcomeOf (ruled AboveFour 0 (pos 0))) d
-answerBy NotMappable written d = answer (outcomeOf (ruled NotMappable 0 (pos 0))) d
+answerBy Accepted written d = answer (outcomeOf (ruled Accepted 0 0 (pos 0))) written
+answerBy WhileCounted written d = answer (outcomeOf (ruled WhileCounted 0 0 (pos 0))) d
+answerBy AboveFour written d = answer (outcomeOf (ruled AboveFour 0 0 (pos 0))) d
+answerBy NotMappable written d = answer (outcomeOf (ruled NotMappable 0 0 (pos 0))) d
 
-carried : (r : Ruling) (place : ℕ) (x : ℤ) (written d : Device) → writtenTo place x d ≡ written → answer (outcomeOf (ruled r place x)) (carriedOut (ruled r place x) d) ≡ answerBy r written d
+carried : (r : Ruling) (place : ℕ) (x : ℤ) (written d : Device) → writtenTo POSITION place x d ≡ written → answer (outcomeOf (ruled r POSITION place x)) (carriedOut (ruled r POSITION place x) d) ≡ answerBy r written d
 carried Accepted place x written d e = rw e
 carried WhileCounted place x written d e = refl
 carried AboveFour place x written d e = refl
 carried NotMappable place x written d e = refl
 
 module _ (w : Direction) (d : Device) (k n : ℕ) (h : k ≤ ENTRIES) (l : n ≤ mostAt k) where
-  decided : (command : ℕ) (b : Data) → asksOf command ≡ Writes (sizeOf k) → valueOf (sizeOf k) false (fourOf (b .one) (b .two) (b .three) (b .four)) ≡ pos n → decisionOn d (request command (mapIndex w) k b) ≡ ruled (rulingOn (mappable w) (mapOf w d) k n) (mapPlace w + k) (pos n)
+  decided : (command : ℕ) (b : Data) → asksOf command ≡ Writes (sizeOf k) → valueOf (sizeOf k) false (fourOf (b .one) (b .two) (b .three) (b .four)) ≡ pos n → decisionOn d (request command (mapIndex w) k b) ≡ ruled (rulingOn (mappable w) (mapOf w d) k n) POSITION (mapPlace w + k) (pos n)
   unfolding decisionOn writeDecision writeOf isLocked
   decided command b asks stands =
       let r = row w k h in
       rw (asks, is-named w k h, r .size, r .signed, stands, ← ruling-of w d k n h)
-      (ruled-last d (mapPlace w + k) (sizeOf k) (pos n) (below-writable (mapPlace w + k) (in-table w k h)) (r .size) (in-range w k n h l) (uncrossed w d k (pos n)) (rw (r .free)))
+      (ruled-last d POSITION (mapPlace w + k) (sizeOf k) (pos n) (below-writable (mapPlace w + k) (in-table w k h)) (r .size) (in-range w k n h l) (uncrossed w d k (pos n)) (rw (r .free)))
 
   write-served : (command : ℕ) (b : Data) → asksOf command ≡ Writes (sizeOf k) → valueOf (sizeOf k) false (fourOf (b .one) (b .two) (b .three) (b .four)) ≡ pos n → served d (request command (mapIndex w) k b) ≡ answerBy (rulingOn (mappable w) (mapOf w d) k n) (mapWritten w k n d) d
   unfolding served
@@ -352,16 +359,16 @@ made maps s =
 
 -- ---- reads
 
-pub sub-indexes : (w : Direction) (k : ℕ) → named (mapIndex w) k ≡ (if 4 below k then nothing 0x06090011 else value (mapPlace w + k))
+pub sub-indexes : (w : Direction) (k : ℕ) → named (mapIndex w) k ≡ (if 4 below k then nothing 0x06090011 else value POSITION (mapPlace w + k))
 sub-indexes w k = by-less 4 k (λ l. rw (lt-ltb 4 k l) (missing w k l)) (λ l. rw (le-ltb 4 k l) (is-named w k l))
   where
     missing : (w : Direction) (k : ℕ) → 4 < k → named (mapIndex w) k ≡ nothing 0x06090011
-    missing receiving k l = unfold named placeOf placeFrom entryAt objects in rw (lt-ltb 4 k l)
-    missing sending k l = unfold named placeOf placeFrom entryAt objects in rw (lt-ltb 4 k l)
+    missing receiving k l = unfold named blockNumber placeOf placeFrom entryAt objects in rw (lt-ltb 4 k l)
+    missing sending k l = unfold named blockNumber placeOf placeFrom entryAt objects in rw (lt-ltb 4 k l)
 
-value-of : (w : Direction) (d : Device) (k : ℕ) → k ≤ ENTRIES → valueAt d (mapPlace w + k) ≡ pos (standsAt (mapOf w d) k)
-value-of receiving d k h = let e : (RECEIVE-MAP + k) - RECEIVE-MAP ≡ k = omega arith in value-of-receive d (RECEIVE-MAP + k) (omega arith, omega arith) ∙ rw e
-value-of sending d k h = let e : (TRANSMIT-MAP + k) - TRANSMIT-MAP ≡ k = omega arith in value-of-transmit d (TRANSMIT-MAP + k) (omega arith, omega arith) ∙ rw e
+value-of : (w : Direction) (d : Device) (k : ℕ) → k ≤ ENTRIES → valueAt d POSITION (mapPlace w + k) ≡ pos (standsAt (mapOf w d) k)
+value-of receiving d k h = let e : (RECEIVE-MAP + k) - RECEIVE-MAP ≡ k = omega arith in value-of-receive d POSITION (RECEIVE-MAP + k) (omega arith, omega arith) ∙ rw e
+value-of sending d k h = let e : (TRANSMIT-MAP + k) - TRANSMIT-MAP ≡ k = omega arith in value-of-transmit d POSITION (TRANSMIT-MAP + k) (omega arith, omega arith) ∙ rw e
 
 pub read : (w : Direction) (d : Device) (k : ℕ) (c : Data) (r : List ℕ) → Sound d → k ≤ 4 → 8 ≤ length r → sdoRoom d (reading (mapIndex w) k c) r ≡ frame (if k is 0 then 0x4F else 0x43) (mapIndex w) k (fourBytes (standsAt (mapOf w d) k)) ++ drop 8 r
 unfolding repliedIn readDecision readOf readReply frameOf
@@ -386,10 +393,10 @@ long receiving s = receive-parts s .long
 long sending s = transmit-parts s .long
 
 -- status word, error code and command know nothing of maps
-aside : (w : Direction) (k n : ℕ) (d : Device) (j : ℕ) → j < ROWS → WRITABLE ≤ j → valueAt (mapWritten w k n d) j ≡ valueAt d j
-unfolding valueAt statusOf targetMet deviceCommand
-aside receiving k n d j h l = rw (le-ltb j SETTINGS (omega arith), le-ltb j RECEIVE-MAP (omega arith), le-ltb j TRANSMIT-MAP (omega arith), le-ltb j SET-POINT (omega arith))
-aside sending k n d j h l = rw (le-ltb j SETTINGS (omega arith), le-ltb j RECEIVE-MAP (omega arith), le-ltb j TRANSMIT-MAP (omega arith), le-ltb j SET-POINT (omega arith))
+aside : (w : Direction) (k n : ℕ) (d : Device) (v j : ℕ) → j < ROWS → WRITABLE ≤ j → valueAt (mapWritten w k n d) v j ≡ valueAt d v j
+unfolding valueAt statusOf targetMet deviceCommand blockCommand blockOf
+aside receiving k n d v j h l = rw (le-ltb j SETTINGS (omega arith), le-ltb j RECEIVE-MAP (omega arith), le-ltb j TRANSMIT-MAP (omega arith), le-ltb j SET-POINT (omega arith))
+aside sending k n d v j h l = rw (le-ltb j SETTINGS (omega arith), le-ltb j RECEIVE-MAP (omega arith), le-ltb j TRANSMIT-MAP (omega arith), le-ltb j SET-POINT (omega arith))
 
 module _ (w : Direction) {d : Device} (s : Sound d) (k n : ℕ) (h : k ≤ 4) (o : mapOutcome w d k n ≡ Written) where
   -- what is acknowledged is a number that its request has
@@ -416,17 +423,17 @@ module _ (w : Direction) {d : Device} (s : Sound d) (k n : ℕ) (h : k ≤ 4) (o
   pub read-back : (c : Data) (r : List ℕ) → 8 ≤ length r → sdoRoom (mapWritten w k n d) (reading (mapIndex w) k c) r ≡ frame (if k is 0 then 0x4F else 0x43) (mapIndex w) k (fourBytes n) ++ drop 8 r
   read-back c r l = read w (mapWritten w k n d) k c r written-sound h l ∙ rw map-of-written
 
-  other-value : (j : ℕ) → j < ROWS → j ≢ mapPlace w + k → valueAt (mapWritten w k n d) j ≡ valueAt d j
-  other-value j l z =
+  other-value : (v j : ℕ) → Object v j → value v j ≢ value POSITION (mapPlace w + k) → valueAt (mapWritten w k n d) v j ≡ valueAt d v j
+  other-value v j l z =
       by-less j WRITABLE
-      (λ m. ap (λ (e : Device). valueAt e j) (sym (written-of w d k n h)) ∙ others-are-kept d (mapPlace w + k) j (pos n) (in-table w k h) m z)
-      (λ m. aside w k n d j l m)
+      (λ m. ap (λ (e : Device). valueAt e v j) (sym (written-of w d k n h)) ∙ others-are-kept s POSITION (mapPlace w + k) v j (pos n) (map-object w k h) l (in-table w k h) m z (λ e. absurd (no-selection w k h e)))
+      (λ m. aside w k n d v j (l .row) m)
 
-  other-decision : (x : Named) → InTable x → x ≢ value (mapPlace w + k) → readOf (mapWritten w k n d) x ≡ readOf d x
+  other-decision : (x : Named) → InTable x → x ≢ value POSITION (mapPlace w + k) → readOf (mapWritten w k n d) x ≡ readOf d x
   unfolding readOf
-  other-decision (value j) l z = rw (other-value j l (λ e. z (ap value e)))
+  other-decision (value v j) l z = rw (other-value v j l z)
   other-decision (byte number) l z = refl
   other-decision (nothing code) l z = refl
 
-  pub others : (i j : ℕ) → named i j ≢ value (mapPlace w + k) → (c : Data) (r : List ℕ) → sdoRoom (mapWritten w k n d) (reading i j c) r ≡ sdoRoom d (reading i j c) r
+  pub others : (i j : ℕ) → named i j ≢ value POSITION (mapPlace w + k) → (c : Data) (r : List ℕ) → sdoRoom (mapWritten w k n d) (reading i j c) r ≡ sdoRoom d (reading i j c) r
   others i j z c r = read-alike written-sound s i j c (unfold readDecision in other-decision (named i j) (named-in-table i j) z) r

@@ -78,8 +78,8 @@ entered : (d : Device) (state : ℕ) → Entered d (entering state d) state
 unfolding entering blockIn ditherIn driven
 entered d state =
     by-cases (state is 1 || state is 2)
-    (λ e. record { state = refl; position = rw e; setpoint = rw e; settings = rw e; maps = refl; dither = rw e })
-    (λ e. record { state = refl; position = rw e; setpoint = rw e; settings = rw e; maps = refl; dither = rw e })
+    (λ e. record { state = refl; position = rw e; setpoint = rw e; settings = rw e; other = refl; selected = refl; maps = refl; dither = rw e })
+    (λ e. record { state = refl; position = rw e; setpoint = rw e; settings = rw e; other = refl; selected = refl; maps = refl; dither = rw e })
 
 module _ {d : Device} (s : Sound d) (word : ℕ) where
   controls : controlAnswer d word .device ≡ controlled word d
@@ -90,7 +90,7 @@ module _ {d : Device} (s : Sound d) (word : ℕ) where
   unfolding controlled
   moved =
       let e = entered d (nextState (d .state) (d .control) word) in
-      rw (controls, ← next-is s word) (record { state = e .state; position = e .position; setpoint = e .setpoint; settings = e .settings; maps = e .maps; dither = e .dither })
+      rw (controls, ← next-is s word) (record { state = e .state; position = e .position; setpoint = e .setpoint; settings = e .settings; other = e .other; selected = e .selected; maps = e .maps; dither = e .dither })
 
   pub word-stored : after (control word) d .control ≡ word
   unfolding controlled
@@ -109,8 +109,8 @@ module _ {d : Device} (s : Sound d) (code : ℕ) (h : 1 ≤ code) where
   unfolding faulted entering blockIn ditherIn driven reported
   to-fault =
       by-cases (d .state is 3)
-      (λ e. record { state = rw faults; position = rw faults; setpoint = rw (faults, e); settings = rw (faults, e); maps = rw (faults, e); dither = rw (faults, e) })
-      (λ e. record { state = rw faults; position = rw faults; setpoint = rw (faults, e); settings = rw (faults, e); maps = rw (faults, e); dither = rw (faults, e) })
+      (λ e. record { state = rw faults; position = rw faults; setpoint = rw (faults, e); settings = rw (faults, e); other = rw (faults, e); selected = rw (faults, e); maps = rw (faults, e); dither = rw (faults, e) })
+      (λ e. record { state = rw faults; position = rw faults; setpoint = rw (faults, e); settings = rw (faults, e); other = rw (faults, e); selected = rw (faults, e); maps = rw (faults, e); dither = rw (faults, e) })
 
   pub first-code : after (fault code) d .error ≡ (if d .state is 3 then d .error else code)
   unfolding faulted entering errorIn reported

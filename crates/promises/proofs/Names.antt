@@ -1,23 +1,30 @@
 -- Each name has the paper's number, by computation.
 use mathlib.Core.Path.{_≡_, refl}
 use Prim.Native.Nat.{ℕ, _<_}
-use Rattle.integers.specs.Words.{each, _=?_}
+use native.Mathlib.Omega.{arith}
+use borrow.Author.Tests.{eqb-true, eqb-false}
+use Rattle.integers.specs.Words.{each, _is_, _=?_}
+use Rattle.integers.proofs.Cases.{by-cases}
 use Rattle.integers.proofs.Each.{each-at}
 use Rattle.integers.proofs.Machine.{=?-yes}
-use Rattle.objects.specs.Places.{WRITABLE}
+use Rattle.objects.specs.Places.{WRITABLE, POSITION, PRESSURE}
 use Rattle.objects.specs.Table.{objects, rowAt}
+use Rattle.objects.specs.Lookup.{Object}
 use Rattle.block.specs.Block.{freshBlock}
 use Rattle.mapping.specs.Maps.{standsAt, freshMap, freshMaps}
 use Rattle.dither.specs.Dither.{freshDither}
 use Rattle.dither.specs.Dither as Dithers
-use Rattle.device.specs.Device.{freshDevice}
+use Rattle.device.specs.Device.{freshDevice, blockOf}
 use Rattle.dictionary.specs.Values.{valueAt}
 use Rattle.promises.specs.Names.{Names}
 
 -- by a test that is computed over the rows
-fresh-values : (place : ℕ) → place < WRITABLE → valueAt freshDevice place ≡ rowAt place .fresh
-unfolding each objects valueAt freshDevice freshBlock standsAt freshMaps freshMap Dithers.standsAt freshDither
-fresh-values place h = =?-yes _ _ (each-at WRITABLE (λ k. valueAt freshDevice k =? rowAt k .fresh) place refl h)
+fresh-values : (which place : ℕ) → Object which place → place < WRITABLE → valueAt freshDevice which place ≡ rowAt place .fresh
+unfolding each objects valueAt blockOf freshDevice freshBlock standsAt freshMaps freshMap Dithers.standsAt freshDither
+fresh-values which place o h =
+    by-cases (which is POSITION)
+    (λ e. rw (eqb-true which POSITION e) (=?-yes _ _ (each-at WRITABLE (λ k. valueAt freshDevice POSITION k =? rowAt k .fresh) place refl h)))
+    (λ e. let p : which ≡ PRESSURE = omega (arith, o .block, eqb-false which POSITION e) in rw p (=?-yes _ _ (each-at WRITABLE (λ k. valueAt freshDevice PRESSURE k =? rowAt k .fresh) place refl h)))
 
 pub names : Names
 unfolding objects
@@ -42,6 +49,11 @@ names =
       b-side = refl;
       threshold = refl;
       dither = refl;
+      selection = refl;
+      blocks = refl;
+      pressure = refl;
+      pressure-ramp = refl;
+      pressure-dead-band = refl;
       receive-map = refl;
       transmit-map = refl;
       of-variables = refl;

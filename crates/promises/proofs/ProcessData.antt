@@ -10,15 +10,17 @@ use lib.ListN.{length, getD, take, drop, List·getD-append}
 use Rattle.integers.specs.Words.{_is_, _among_}
 use Rattle.integers.proofs.Cases.{by-test}
 use Rattle.objects.specs.Table.{objects}
-use Rattle.objects.specs.Lookup.{placeFrom, placeOf, recordEntry, entryAt}
+use Rattle.objects.specs.Lookup.{blockNumber, placeFrom, placeOf, recordEntry, entryAt}
 use Rattle.coding.specs.Bytes.{byteAt, byteOf, fourOf, fourBytes}
 use Rattle.coding.specs.Coding.{valueOf}
 use Rattle.mapping.specs.Maps.{bytesOf, entryOf, lengthOf, freshMap, freshMaps, counted, mapLength}
 use Rattle.dither.specs.Dither.{atPhase}
-use Rattle.device.specs.Device.{freshDevice, withMaps}
+use Rattle.objects.specs.Places.{POSITION}
+use Rattle.block.specs.declared.Block.{Block}
+use Rattle.device.specs.Device.{freshDevice, withMaps, blockOf, withBlockOf}
 use Rattle.device.specs.Sound.{soundDevice, Sound}
 use Rattle.device.specs.declared.Device.{Device}
-use Rattle.device.proofs.Laws.{device-parts, with-maps-sound, receive-parts, transmit-parts}
+use Rattle.device.proofs.Laws.{maps-of-sound, with-maps-sound, with-block-of-beside, with-block-of-maps, receive-parts, transmit-parts}
 use Rattle.dictionary.specs.Named.{named}
 use Rattle.dictionary.specs.Values.{writtenTo}
 use Rattle.sdo.specs.Frames.{FRAME, asksOf, frameOf, readReply, repliedIn}
@@ -108,14 +110,18 @@ pub record Beside (d e : Device) : Type 0 where
 same-beside : {d : Device} → Beside d d
 same-beside = record { maps = refl; dither = refl }
 
+-- another block of a number leaves both
+beside-blocks : (b : Block) (d : Device) → Beside (withBlockOf POSITION b d) d
+beside-blocks b d = let k = with-block-of-beside POSITION b d in record { maps = k .maps; dither = ap (atPhase 0) (k .dither) }
+
 -- no entry is of a map or of the dither
 acted-keeps : (entry : ℕ) → entry among mappable receiving ≡ true → (d : Device) (pdo : List ℕ) → Beside (acted entry pdo d) d
 unfolding acted writtenTo
 acted-keeps entry h d pdo =
     one-of-three 0x60400010 0x63000110 0x63140110 entry h
     (λ e. let k = controlled-keeps _ d in rw (e, word-taken d (dataIn pdo)) (record { maps = k .maps; dither = k .dither }))
-    (λ e. rw (e, set-point-taken d (dataIn pdo)) (record { maps = refl; dither = refl }))
-    (λ e. rw (e, hold-set-point-taken d (dataIn pdo)) (record { maps = refl; dither = refl }))
+    (λ e. rw (e, set-point-taken d (dataIn pdo)) (beside-blocks _ d))
+    (λ e. rw (e, hold-set-point-taken d (dataIn pdo)) (beside-blocks _ d))
 
 received-keeps : (entries pdo : List ℕ) (d : Device) → Receivable entries → Beside (PDO.received entries pdo d) d
 unfolding PDO.received
@@ -196,10 +202,10 @@ sent d room k c r s b h l m =
 -- ---- storing and loading
 
 load-keeps : (d : Device) (image : List ℕ) → loadAnswer d image .device .maps ≡ d .maps
-load-keeps d image = by-load (λ c. c .device .maps ≡ d .maps) d image (λ number. refl) (λ full sound. refl)
+load-keeps d image = by-load (λ c. c .device .maps ≡ d .maps) d image (λ number. refl) (λ full sound. with-block-of-beside POSITION _ d .maps)
 
 pub process-data : ProcessData
-unfolding freshDevice freshMaps freshMap named placeOf placeFrom entryAt recordEntry objects
+unfolding freshDevice freshMaps freshMap named blockNumber placeOf placeFrom entryAt recordEntry objects
 process-data =
     record {
       receivable = refl;
@@ -211,14 +217,14 @@ process-data =
       read-back = λ w d k n c r s h o l. read-back w s k n h o c r l;
       others = λ w d k n s h o. others w s k n h o;
       fresh-zeros = refl;
-      kept = λ calls. device-parts (histories .sound calls) .mapped;
+      kept = λ calls. maps-of-sound (histories .sound calls);
       made = made;
       received = received;
       receive-keeps = λ d pdo s. received-beside d pdo s .maps;
       told = told;
       unsent = unsent;
       sent = sent;
-      stored-alike = λ d maps room s h. stored-alike (withMaps maps) s (with-maps-sound s h) refl room;
-      loaded-alike = λ d maps image s h. loaded-alike (withMaps maps) s (with-maps-sound s h) refl image refl;
+      stored-alike = λ d maps room s h. stored-alike (withMaps maps) s (with-maps-sound s h) (unfold blockOf in refl) room;
+      loaded-alike = λ d maps image s h. loaded-alike (withMaps maps) s (with-maps-sound s h) refl image (unfold blockOf in with-block-of-maps POSITION _ maps d);
       load-keeps = load-keeps;
     }

@@ -8,13 +8,14 @@ use borrow.Author.Tests.{le-ltb}
 use lib.ListN.{length}
 use Rattle.integers.specs.Words.{_is_}
 use Rattle.integers.proofs.Cases.{by-test}
-use Rattle.objects.specs.Places.{ROWS}
+use Rattle.objects.specs.Places.{ROWS, POSITION}
 use Rattle.objects.specs.Table.{rowAt}
+use Rattle.objects.specs.Lookup.{Object, indexOf}
 use Rattle.coding.specs.Bytes.{byteAt, twoOf, fourOf}
 use Rattle.device.specs.Sound.{Sound}
 use Rattle.device.specs.declared.Device.{Device}
 use Rattle.dictionary.specs.Named.{value, named}
-use Rattle.dictionary.proofs.Laws.{each-row-is-named}
+use Rattle.dictionary.proofs.Laws.{each-object-is-named}
 use Rattle.image.proofs.Lengths.{Sized, one, two, four, sized}
 use Rattle.sdo.specs.Frames.{FRAME, requestOf, asksOf, writeCommand, repliedIn}
 use Rattle.sdo.specs.Serve.{served}
@@ -48,8 +49,14 @@ writes-no-client-abort size = by-test P (size is 1) (λ e. refl) (λ e. by-test 
 
 -- ---- what index and sub-index name
 
-pub is-named : (place : ℕ) → place < ROWS → named (rowAt place .index) (valueSub place) ≡ value place
-is-named place h = each-row-is-named place h
+pub is-named : {which place : ℕ} → Object which place → named (indexOf which place) (valueSub place) ≡ value which place
+is-named o = each-object-is-named o
+
+-- what is of no block is named by the index of its row
+pub row-named : (place : ℕ) → place < ROWS → named (rowAt place .index) (valueSub place) ≡ value POSITION place
+row-named place h =
+    let same : indexOf POSITION place ≡ rowAt place .index = omega arith in
+    rw same at (is-named {which = POSITION} (record { row = h; block = omega arith; own = λ p. absurd (omega (arith, p)) }))
 
 -- ---- answers
 

@@ -10,6 +10,7 @@ use Rattle.integers.specs.Words.{if_then_else_, _is_, _among_}
 use Rattle.integers.proofs.Cases.{by-cases, by-less, apart, clash}
 use Rattle.objects.specs.Places.{WRITABLE}
 use Rattle.objects.specs.Table.{rowAt}
+use Rattle.objects.specs.Lookup.{Object, indexOf}
 use Rattle.coding.specs.Bytes.{byteAt, fourBytes}
 use Rattle.device.specs.Sound.{Sound}
 use Rattle.device.specs.declared.Device.{Device}
@@ -39,14 +40,14 @@ pub abort-replied : (d : Device) (request room : List ℕ) (code : ℕ) → sdoA
 unfolding sdoRoom repliedIn frameOf
 abort-replied d request room code e = rw e
 
-module _ {request : List ℕ} {place size : ℕ} (w : Sends request place size) (differs : rowAt place .size ≢ size) where
-  meets : Meets (requestOf request) place size
+module _ {request : List ℕ} {which place size : ℕ} (w : Sends request which place size) (differs : rowAt place .size ≢ size) where
+  meets : Meets (requestOf request) which place size
   meets = record { asks = rw (w .command) (writes-asks size (w .least) (w .most)); found = w .names; below = w .writable; differs = differs }
 
   aborted : {d : Device} → Sound d → (room : List ℕ) → FRAME ≤ length room → (code : ℕ) → sizeCode (rowAt place .size) size ≡ code → Aborted d request room code (fourBytes code)
   aborted {d} s room h code c =
       let answer = answered s request (length room) (w .long) (rw (w .command) (writes-no-client-abort size)) h in
-      let e : sdoAnswer d request (length room) .outcome ≡ Abort code = rw (answer, meets-aborts d (requestOf request) place size meets, c) in
+      let e : sdoAnswer d request (length room) .outcome ≡ Abort code = rw (answer, meets-aborts d (requestOf request) which place size meets, c) in
       record { outcome = e; reply = abort-replied d request room code e }
 
 too-many : (d : Device) (request room : List ℕ) → Sound d → 8 ≤ length room → TooMany request → Aborted d request room 0x06070012 (0x12 ∷ 0x00 ∷ 0x07 ∷ 0x06 ∷ [])
@@ -61,15 +62,16 @@ too-few d request room s h w = let fewer = w .fewer in aborted (w .sends) (λ e.
 
 -- the write that was aborted at the fifth place
 record Fifth (request : List ℕ) (code : ℕ) : Type 0 where
+  which : ℕ
   place : ℕ
   size : ℕ
-  sends : Sends request place size
+  sends : Sends request which place size
   differs : rowAt place .size ≢ size
   told : sizeCode (rowAt place .size) size ≡ code
 
-sent : {request : List ℕ} {place size : ℕ} → length request ≡ FRAME → Meets (requestOf request) place size → Sends request place size
+sent : {request : List ℕ} {which place size : ℕ} → length request ≡ FRAME → Meets (requestOf request) which place size → Sends request which place size
 unfolding writeCommand
-sent {request} {place} {size} l m =
+sent {request} {which} {place} {size} l m =
     let c = asks-write (byteAt request 0) size (m .asks) in
     record { long = l; least = c .1; most = c .2; command = c .0; names = m .found; writable = m .below }
 
@@ -82,7 +84,7 @@ fifth d request room code n = by-sdo (λ a. P (a .outcome)) d request room (λ k
     served-fifth : length request ≡ FRAME → P (served d (requestOf request) .outcome)
     served-fifth l =
         by-outcome P d (requestOf request)
-        (λ place size m f. record { place = place; size = size; sends = sent l m; differs = m .differs; told = cc })
+        (λ which place size m f. record { which = which; place = place; size = size; sends = sent l m; differs = m .differs; told = cc })
         (λ k o f. let same : k ≡ code = cc in clash (rw same at o) n)
         (λ s k f. apart (cc)) (λ f. apart (cc))
 
@@ -100,49 +102,49 @@ module _ {request : List ℕ} {code : ℕ} (f : Fifth request code) where
 was-too-many : (d : Device) (request : List ℕ) (room : ℕ) → sdoAnswer d request room .outcome ≡ Abort 0x06070012 → TooMany request
 was-too-many d request room e =
     let f = fifth d request room TOO-MANY-BYTES refl e in
-    by-way f (λ h. record { place = f .place; size = f .size; sends = f .sends; more = h }) (λ h. let same = fewer-told f h in absurd (omega arith))
+    by-way f (λ h. record { which = f .which; place = f .place; size = f .size; sends = f .sends; more = h }) (λ h. let same = fewer-told f h in absurd (omega arith))
 
 was-too-few : (d : Device) (request : List ℕ) (room : ℕ) → sdoAnswer d request room .outcome ≡ Abort 0x06070013 → TooFew request
 was-too-few d request room e =
     let f = fifth d request room TOO-FEW-BYTES refl e in
-    by-way f (λ h. let same = more-told f h in absurd (omega arith)) (λ h. record { place = f .place; size = f .size; sends = f .sends; fewer = h })
+    by-way f (λ h. let same = more-told f h in absurd (omega arith)) (λ h. record { which = f .which; place = f .place; size = f .size; sends = f .sends; fewer = h })
 
 -- a request comes to the fifth place with one object and one size, so of one that has the right size no other is told
-right-size : {request : List ℕ} {p q n : ℕ} → Sends request p (rowAt p .size) → Sends request q n → rowAt q .size ≡ n
-right-size {p} {q} {n} s t =
-    let found : value p ≡ value q = sym (s .names) ∙ t .names in
+right-size : {request : List ℕ} {u p v q n : ℕ} → Sends request u p (rowAt p .size) → Sends request v q n → rowAt q .size ≡ n
+right-size {u} {p} {v} {q} {n} s t =
+    let found : value u p ≡ value v q = sym (s .names) ∙ t .names in
     let place : p ≡ q = cc in
     let asked : Writes (rowAt p .size) ≡ Writes n = sym (writes-asks _ (s .least) (s .most)) ∙ ap asksOf (sym (s .command) ∙ t .command) ∙ writes-asks n (t .least) (t .most) in
     rw (← place) (cc)
 
-right-length : (d : Device) (request : List ℕ) (place room : ℕ) → Sends request place (rowAt place .size) → (sdoAnswer d request room .outcome ≢ Abort 0x06070012) × (sdoAnswer d request room .outcome ≢ Abort 0x06070013)
-right-length d request place room s = (
+right-length : (d : Device) (request : List ℕ) (which place room : ℕ) → Sends request which place (rowAt place .size) → (sdoAnswer d request room .outcome ≢ Abort 0x06070012) × (sdoAnswer d request room .outcome ≢ Abort 0x06070013)
+right-length d request which place room s = (
   λ e. let w = was-too-many d request room e in let same = right-size s (w .sends) in let more = w .more in omega arith,
   λ e. let w = was-too-few d request room e in let same = right-size s (w .sends) in let fewer = w .fewer in omega arith,
 )
 
 -- ---- three bytes
 
-three-bytes : (d : Device) (place : ℕ) (b : Data) (room : List ℕ) → Sound d → place < WRITABLE → 8 ≤ length room → sdoRoom d (frame 0x27 (rowAt place .index) (valueSub place) (list b)) room ≡ frame 0x80 (rowAt place .index) (valueSub place) ((if rowAt place .size is 4 then 0x13 else 0x12) ∷ 0x00 ∷ 0x07 ∷ 0x06 ∷ []) ++ drop 8 room
-three-bytes d place b room s w h = by (sized place)
+three-bytes : (d : Device) (which place : ℕ) (b : Data) (room : List ℕ) → Sound d → Object which place → place < WRITABLE → 8 ≤ length room → sdoRoom d (frame 0x27 (indexOf which place) (valueSub place) (list b)) room ≡ frame 0x80 (indexOf which place) (valueSub place) ((if rowAt place .size is 4 then 0x13 else 0x12) ∷ 0x00 ∷ 0x07 ∷ 0x06 ∷ []) ++ drop 8 room
+three-bytes d which place b room s o w h = by (sized place)
   where
     index : ℕ
-    index = rowAt place .index
+    index = indexOf which place
 
     request : List ℕ
     request = frame 0x27 index (valueSub place) (list b)
 
-    sends : Sends request place 3
-    sends = record { long = refl; least = omega arith; most = omega arith; command = refl; names = rw (index-back index) (is-named place (omega arith)); writable = w }
+    sends : Sends request which place 3
+    sends = record { long = refl; least = omega arith; most = omega arith; command = refl; names = rw (index-back index) (is-named o); writable = w }
 
     reply : ℕ → List ℕ
     reply low = frame 0x80 index (valueSub place) (low ∷ 0x00 ∷ 0x07 ∷ 0x06 ∷ []) ++ drop FRAME room
 
     many : rowAt place .size < 3 → sdoRoom d request room ≡ reply 0x12
-    many k = rw (index-back index) at (too-many d request room s h (record { place = place; size = 3; sends = sends; more = k }) .reply)
+    many k = rw (index-back index) at (too-many d request room s h (record { which = which; place = place; size = 3; sends = sends; more = k }) .reply)
 
     few : 3 < rowAt place .size → sdoRoom d request room ≡ reply 0x13
-    few k = rw (index-back index) at (too-few d request room s h (record { place = place; size = 3; sends = sends; fewer = k }) .reply)
+    few k = rw (index-back index) at (too-few d request room s h (record { which = which; place = place; size = 3; sends = sends; fewer = k }) .reply)
 
     by : Sized (rowAt place .size) → sdoRoom d request room ≡ reply (if rowAt place .size is 4 then 0x13 else 0x12)
     by (one e) = rw e (many (omega arith))

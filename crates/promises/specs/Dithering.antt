@@ -9,7 +9,7 @@ use lib.IntN.{ℤ, pos, negℤ, natAbs, _+ℤ_, _-ℤ_, _*ℤ_}
 use lib.ListN.{length}
 use Rattle.integers.specs.Words.{if_then_else_, minus, _over_, _is_}
 use Rattle.integers.specs.Range.{Within}
-use Rattle.objects.specs.Places.{DITHER-TYPE, DITHER-AMPLITUDE, DITHER-FREQUENCY, DEAD-BAND-TYPE, THRESHOLD}
+use Rattle.objects.specs.Places.{DITHER-TYPE, DITHER-AMPLITUDE, DITHER-FREQUENCY, DEAD-BAND-TYPE, THRESHOLD, POSITION}
 use Rattle.block.specs.Block.{setting}
 use Rattle.block.specs.Command.{wholeOf, bandedOf}
 use Rattle.block.specs.Target.{clampToStroke}
@@ -31,9 +31,9 @@ use Rattle.promises.specs.WriteLength.{Aborted}
 -- the objects: all fresh 0; a variable, and two records of one entry
 pub record DitherObjects : Type 0 where
   pub fresh-zeros : freshDevice .dither ≡ record { kind = pos 0; amplitude = pos 0; frequency = pos 0; phase = 0 }
-  pub of-6360 : (sub : ℕ) → named 0x6360 sub ≡ (if sub is 0 then value DITHER-TYPE else nothing 0x06090011)
-  pub of-6361 : (sub : ℕ) → named 0x6361 sub ≡ (if sub is 0 then byte 1 else if sub is 1 then value DITHER-AMPLITUDE else nothing 0x06090011)
-  pub of-6362 : (sub : ℕ) → named 0x6362 sub ≡ (if sub is 0 then byte 1 else if sub is 1 then value DITHER-FREQUENCY else nothing 0x06090011)
+  pub of-6360 : (sub : ℕ) → named 0x6360 sub ≡ (if sub is 0 then value POSITION DITHER-TYPE else nothing 0x06090011)
+  pub of-6361 : (sub : ℕ) → named 0x6361 sub ≡ (if sub is 0 then byte 1 else if sub is 1 then value POSITION DITHER-AMPLITUDE else nothing 0x06090011)
+  pub of-6362 : (sub : ℕ) → named 0x6362 sub ≡ (if sub is 0 then byte 1 else if sub is 1 then value POSITION DITHER-FREQUENCY else nothing 0x06090011)
 
 -- the phase after n ticks from a phase: (frequency times 2^32) / 1000, fraction dropped, is added n times, modulo 2^32
 abbrev pub phaseAfter : ℕ → ℤ → ℕ → ℕ

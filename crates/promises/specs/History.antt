@@ -38,7 +38,7 @@ isWritten (Refused number) = false
 abbrev pub wordsAlone : Map → Bool
 wordsAlone m = each (m .count) (λ k. entryOf m k is 0x60400010)
 
--- a call that can change a setting, the set point, a map or a value of the dither: an acknowledged write to another object than 6040h,
+-- a call that can change a setting, a set point, the selection, a map or a value of the dither: an acknowledged write to another object than 6040h,
 -- a received PDO with another one, a load, a fresh device
 abbrev pub alters : Call → Device → Bool
 alters fresh d = true
@@ -65,7 +65,7 @@ pub record Histories : Type 0 where
   pub sound : (calls : List Call) → Sound (history calls)
   -- so no call is ever refused by 1
   pub never-unsound : (calls : List Call) (c : Call) → number c (history calls) ≢ 1
-  -- settings, set point, maps and values of the dither change by loads, by acknowledged writes to other objects than 6040h,
+  -- settings, set points, the selection, maps and values of the dither change by loads, by acknowledged writes to other objects than 6040h,
   -- by PDOs that have another one, and by `fresh` alone
   pub kept : (calls : List Call) (d : Device) → altersNothing calls d ≡ true → SameSettings (afterAll calls d) d
   -- so, with any calls between but those, whenever a device is back in a state `target` answers what it did

@@ -9,3 +9,4 @@ pub mod Dithering
 pub mod History
 pub mod Examples
 pub mod Determined
+pub mod Pressure

@@ -6,10 +6,10 @@ use Prim.Native.Nat.{ℕ, _+_, _-_, _*_, _<_}
 use Rattle.objects.specs.Places.{HOLD-SET-POINT, UPPER-LIMIT, LOWER-LIMIT, SCALING-FACTOR, SCALING-OFFSET, ZERO-CORRECTION, RAMP-TYPE}
 use Rattle.objects.specs.Places.{ACCELERATION, ACCELERATION-POSITIVE, ACCELERATION-NEGATIVE, DECELERATION, DECELERATION-POSITIVE, DECELERATION-NEGATIVE}
 use Rattle.objects.specs.Places.{DITHER-TYPE, DITHER-AMPLITUDE, DITHER-FREQUENCY}
-use Rattle.objects.specs.Places.{DEAD-BAND-TYPE, A-SIDE, B-SIDE, THRESHOLD, RECEIVE-MAP, TRANSMIT-MAP, SET-POINT, CONTROL-WORD, STATUS-WORD}
-use Rattle.objects.specs.Places.{ERROR-CODE, COMMAND, SETTINGS, WRITABLE, ROWS}
+use Rattle.objects.specs.Places.{DEAD-BAND-TYPE, A-SIDE, B-SIDE, THRESHOLD, RECEIVE-MAP, TRANSMIT-MAP, SET-POINT, SELECTION, CONTROL-WORD, STATUS-WORD}
+use Rattle.objects.specs.Places.{ERROR-CODE, COMMAND, SETTINGS, WRITABLE, ROWS, POSITION, PRESSURE}
 use Rattle.objects.specs.Table.{rowAt}
-use Rattle.objects.specs.Lookup.{SECONDS, MILLI}
+use Rattle.objects.specs.Lookup.{Object, indexOf, SECONDS, MILLI}
 use Rattle.device.specs.Device.{freshDevice}
 use Rattle.device.specs.States.{DISABLED, HOLD, ACTIVE, FAULT}
 use Rattle.device.specs.Queries.{STATUS-DISABLED, STATUS-HOLD, STATUS-ACTIVE, STATUS-FAULT, TARGET-MET}
@@ -66,27 +66,40 @@ pub record Names : Type 0 where
   pub threshold : indexAt THRESHOLD ≡ 0x6345
   -- the dither, by wish 4 of document 02: type, amplitude, frequency
   pub dither : map indexAt (DITHER-TYPE ∷ DITHER-AMPLITUDE ∷ DITHER-FREQUENCY ∷ []) ≡ 0x6360 ∷ 0x6361 ∷ 0x6362 ∷ []
+  -- the selection, by wish 6, and the numbers of the blocks
+  pub selection : indexAt SELECTION ≡ 0x2000
+  pub blocks : POSITION ∷ PRESSURE ∷ [] ≡ 0 ∷ 1 ∷ []
+  -- the pressure block: set point, command, hold set point, limits, scaling, corrections; ramp; dead band
+  pub pressure :
+      map (indexOf PRESSURE)
+      (SET-POINT ∷ COMMAND ∷ HOLD-SET-POINT ∷ UPPER-LIMIT ∷ LOWER-LIMIT ∷ SCALING-FACTOR ∷ SCALING-OFFSET ∷ ZERO-CORRECTION ∷ [])
+      ≡ 0x6380 ∷ 0x6390 ∷ 0x6394 ∷ 0x63A0 ∷ 0x63A1 ∷ 0x63A2 ∷ 0x63A3 ∷ 0x63A4 ∷ []
+  pub pressure-ramp :
+      map (indexOf PRESSURE)
+      (RAMP-TYPE ∷ ACCELERATION ∷ ACCELERATION-POSITIVE ∷ ACCELERATION-NEGATIVE ∷ DECELERATION ∷ DECELERATION-POSITIVE ∷ DECELERATION-NEGATIVE ∷ [])
+      ≡ 0x63B0 ∷ 0x63B1 ∷ 0x63B2 ∷ 0x63B3 ∷ 0x63B4 ∷ 0x63B5 ∷ 0x63B6 ∷ []
+  pub pressure-dead-band : map (indexOf PRESSURE) (DEAD-BAND-TYPE ∷ A-SIDE ∷ B-SIDE ∷ THRESHOLD ∷ []) ≡ 0x63C2 ∷ 0x63C3 ∷ 0x63C4 ∷ 0x63C5 ∷ []
   -- the maps: the number of entries and the four entries of each, by index and sub-index
   pub receive-map : map indexAndSub (fivePlaces RECEIVE-MAP) ≡ 0x160000 ∷ 0x160001 ∷ 0x160002 ∷ 0x160003 ∷ 0x160004 ∷ []
   pub transmit-map : map indexAndSub (fivePlaces TRANSMIT-MAP) ≡ 0x1A0000 ∷ 0x1A0001 ∷ 0x1A0002 ∷ 0x1A0003 ∷ 0x1A0004 ∷ []
   -- how many there are, how many can be written, and how many are stored
-  pub rows : ROWS ≡ 35
-  pub writable : WRITABLE ≡ 32
+  pub rows : ROWS ≡ 36
+  pub writable : WRITABLE ≡ 33
   pub settings : SETTINGS ≡ 17
   -- the sub-index of their values: 0 of a variable, 1 of a record
   pub of-variables :
-      map subAt (CONTROL-WORD ∷ STATUS-WORD ∷ ERROR-CODE ∷ SCALING-FACTOR ∷ RAMP-TYPE ∷ DEAD-BAND-TYPE ∷ DITHER-TYPE ∷ [])
-      ≡ 0 ∷ 0 ∷ 0 ∷ 0 ∷ 0 ∷ 0 ∷ 0 ∷ []
+      map subAt (CONTROL-WORD ∷ STATUS-WORD ∷ ERROR-CODE ∷ SCALING-FACTOR ∷ RAMP-TYPE ∷ DEAD-BAND-TYPE ∷ DITHER-TYPE ∷ SELECTION ∷ [])
+      ≡ 0 ∷ 0 ∷ 0 ∷ 0 ∷ 0 ∷ 0 ∷ 0 ∷ 0 ∷ []
   pub of-records :
       map subAt
       (SET-POINT ∷ COMMAND ∷ HOLD-SET-POINT ∷ UPPER-LIMIT ∷ LOWER-LIMIT ∷ SCALING-OFFSET ∷ ZERO-CORRECTION ∷ ACCELERATION
       ∷ ACCELERATION-POSITIVE ∷ ACCELERATION-NEGATIVE ∷ DECELERATION ∷ DECELERATION-POSITIVE ∷ DECELERATION-NEGATIVE ∷ A-SIDE ∷ B-SIDE ∷ THRESHOLD
       ∷ DITHER-AMPLITUDE ∷ DITHER-FREQUENCY ∷ [])
       ≡ 1 ∷ 1 ∷ 1 ∷ 1 ∷ 1 ∷ 1 ∷ 1 ∷ 1 ∷ 1 ∷ 1 ∷ 1 ∷ 1 ∷ 1 ∷ 1 ∷ 1 ∷ 1 ∷ 1 ∷ 1 ∷ []
-  -- a fresh device has the fresh value of each row that can be written
-  pub fresh : (place : ℕ) → place < WRITABLE → valueAt freshDevice place ≡ rowAt place .fresh
-  -- their sizes: one byte for I8, four for U32, two for I16 and U16; of a map one for the number of entries and four for an entry
-  pub of-one-byte : map sizeAt (RAMP-TYPE ∷ DEAD-BAND-TYPE ∷ DITHER-TYPE ∷ []) ≡ 1 ∷ 1 ∷ 1 ∷ []
+  -- a fresh device has the fresh value of each object that can be written, of either block
+  pub fresh : (which place : ℕ) → Object which place → place < WRITABLE → valueAt freshDevice which place ≡ rowAt place .fresh
+  -- their sizes: one byte for I8 and 2000h, four for U32, two for I16 and U16; of a map one for the number of entries and four for an entry
+  pub of-one-byte : map sizeAt (RAMP-TYPE ∷ DEAD-BAND-TYPE ∷ DITHER-TYPE ∷ SELECTION ∷ []) ≡ 1 ∷ 1 ∷ 1 ∷ 1 ∷ []
   pub of-a-map : map sizeAt (fivePlaces RECEIVE-MAP ++ fivePlaces TRANSMIT-MAP) ≡ 1 ∷ 4 ∷ 4 ∷ 4 ∷ 4 ∷ 1 ∷ 4 ∷ 4 ∷ 4 ∷ 4 ∷ []
   pub of-four-bytes :
       map sizeAt

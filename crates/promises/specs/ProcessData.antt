@@ -1,4 +1,5 @@
--- Wish 2 of document 02: process data, of the calls. What a read of a map and a write to it get, by bytes; that the sound maps are exactly those that such writes make;
+-- Wish 2 of document 02: process data, of the calls.
+-- What a read of a map and a write to it get, by bytes; that the sound maps are exactly those that such writes make;
 -- that a received PDO is a list of acknowledged SDO writes, and a sent one has the bytes of SDO reads; that storing and loading know nothing of maps.
 use mathlib.Core.Bool.{Bool, true, not, _&&_, _||_}
 use mathlib.Core.List.{List, [], _∷_, _++_, map}
@@ -7,7 +8,7 @@ use mathlib.Core.Path.{_≡_}
 use Prim.Native.Nat.{ℕ, _+_, _*_, _/_, _%_, _≤_, _<_}
 use lib.ListN.{length, drop}
 use Rattle.integers.specs.Words.{if_then_else_, each, _is_, _below_, _among_}
-use Rattle.objects.specs.Places.{RECEIVE-MAP, TRANSMIT-MAP, HOLD-SET-POINT, SET-POINT, CONTROL-WORD, STATUS-WORD, ERROR-CODE, COMMAND}
+use Rattle.objects.specs.Places.{RECEIVE-MAP, TRANSMIT-MAP, HOLD-SET-POINT, SET-POINT, CONTROL-WORD, STATUS-WORD, ERROR-CODE, COMMAND, POSITION}
 use Rattle.coding.specs.Bytes.{byteAt, fourBytes}
 use Rattle.mapping.specs.Maps.{entryOf, standsAt, counted}
 use Rattle.mapping.specs.Sound.{soundMaps}
@@ -131,8 +132,10 @@ writesOf (entry ∷ entries) pdo = frame 0x2B (index entry) (sub entry) (byteAt 
 
 pub record ProcessData : Type 0 where
   -- which objects may be mapped
-  pub receivable : map (λ e. named (index e) (sub e)) (mappable receiving) ≡ value CONTROL-WORD ∷ value SET-POINT ∷ value HOLD-SET-POINT ∷ []
-  pub sendable : map (λ e. named (index e) (sub e)) (mappable sending) ≡ value STATUS-WORD ∷ value ERROR-CODE ∷ value COMMAND ∷ []
+  pub receivable :
+      map (λ e. named (index e) (sub e)) (mappable receiving)
+      ≡ value POSITION CONTROL-WORD ∷ value POSITION SET-POINT ∷ value POSITION HOLD-SET-POINT ∷ []
+  pub sendable : map (λ e. named (index e) (sub e)) (mappable sending) ≡ value POSITION STATUS-WORD ∷ value POSITION ERROR-CODE ∷ value POSITION COMMAND ∷ []
   -- a write of an entry, and of the number of entries, in every state
   pub entry-written :
       (w : Direction) (d : Device) (k n room : ℕ) → Sound d → 1 ≤ k → k ≤ 4 → n < 4294967296 → 8 ≤ room →
@@ -141,7 +144,7 @@ pub record ProcessData : Type 0 where
       (w : Direction) (d : Device) (n a b c room : ℕ) → Sound d → n < 256 → 8 ≤ room →
       sdoAnswer d (writeCount w n a b c) room ≡ answer (countOutcome w d n) (doneWhere (countOutcome w d n) (mapWritten w 0 n d) d)
   -- what stands at a sub-index of a map; from 5 on there is none
-  pub sub-indexes : (w : Direction) (k : ℕ) → named (mapIndex w) k ≡ (if 4 below k then nothing 0x06090011 else value (mapPlace w + k))
+  pub sub-indexes : (w : Direction) (k : ℕ) → named (mapIndex w) k ≡ (if 4 below k then nothing 0x06090011 else value POSITION (mapPlace w + k))
   -- each is read, one byte at 0 and four elsewhere, in every state
   pub read :
       (w : Direction) (d : Device) (k : ℕ) (c : Data) (r : List ℕ) → Sound d → k ≤ 4 → 8 ≤ length r →
@@ -154,7 +157,7 @@ pub record ProcessData : Type 0 where
   -- and every other entry of the dictionary reads as before
   pub others :
       (w : Direction) (d : Device) (k n : ℕ) → Sound d → k ≤ 4 → mapOutcome w d k n ≡ Written →
-      (i j : ℕ) → named i j ≢ value (mapPlace w + k) →
+      (i j : ℕ) → named i j ≢ value POSITION (mapPlace w + k) →
       (c : Data) (r : List ℕ) → sdoRoom (mapWritten w k n d) (reading i j c) r ≡ sdoRoom d (reading i j c) r
   -- fresh maps are all zeros
   pub fresh-zeros :

@@ -11,9 +11,9 @@ use lib.IntN.{pos}
 use lib.ListN.{length}
 use Rattle.integers.proofs.Linear.{ints}
 use Rattle.integers.proofs.Cases.{by-cases, by-test}
-use Rattle.objects.specs.Places.{CONTROL-WORD}
+use Rattle.objects.specs.Places.{CONTROL-WORD, POSITION}
 use Rattle.objects.specs.Table.{objects, isSigned}
-use Rattle.objects.specs.Lookup.{placeFrom, placeOf, entryAt}
+use Rattle.objects.specs.Lookup.{blockNumber, placeFrom, placeOf, entryAt}
 use Rattle.coding.specs.Bytes.{byteAt}
 use Rattle.coding.specs.Coding.{span, inSpan, valueOf}
 use Rattle.mapping.specs.Maps.{counted, mapLength}
@@ -96,13 +96,13 @@ abbrev pub writing : ℕ → Request
 writing word = record { command = 0x2B; sub = 0; index = 0x6040; number = word }
 
 -- a control word may be written in every state
-word-accepted : (d : Device) (word : ℕ) → word < 65536 → verdictOn d CONTROL-WORD 2 (pos word) ≡ Write CONTROL-WORD (pos word)
+word-accepted : (d : Device) (word : ℕ) → word < 65536 → verdictOn d POSITION CONTROL-WORD 2 (pos word) ≡ Write POSITION CONTROL-WORD (pos word)
 unfolding objects crosses isLocked mapRuling
 word-accepted d word h =
-    is-accepted {d = d} {place = CONTROL-WORD} {size = 2} {x = pos word} (record { writable = refl; sized = refl; range = omega (arith, ints); uncrossed = refl; unlocked = refl; unruled = refl })
+    is-accepted {d = d} {which = POSITION} {place = CONTROL-WORD} {size = 2} {x = pos word} (record { writable = refl; sized = refl; range = omega (arith, ints); uncrossed = refl; unlocked = refl; unruled = refl })
 
 pub control-is-a-write : (d : Device) (word : ℕ) → word < 65536 → served d (writing word) ≡ answer Written (controlled word d)
-unfolding served decisionOn asksOf writeDecision named placeOf placeFrom entryAt objects writeOf isSigned valueOf span inSpan writtenTo
+unfolding served decisionOn asksOf writeDecision named blockNumber placeOf placeFrom entryAt objects writeOf isSigned valueOf span inSpan writtenTo
 control-is-a-write d word h =
     let low : word % 65536 ≡ word = omega arith in
     rw (low, word-accepted d word h)

@@ -1,10 +1,12 @@
--- Document 01, "Numbers handed back", with wish 2 of document 02: what each call answers. Whatever number but 0 is handed back, the state is the given one.
+-- Document 01, "Numbers handed back", with wishes 2 and 6 of document 02: what each call answers.
+-- Whatever number but 0 is handed back, the state is the given one.
 use mathlib.Core.Bool.{Bool, not}
 use mathlib.Core.List.{List}
 use Prim.Native.Nat.{ℕ, _/_}
 use lib.IntN.{ℤ, pos}
 use lib.ListN.{length}
 use Rattle.integers.specs.Words.{if_then_else_, _is_, _below_}
+use Rattle.objects.specs.Places.{POSITION}
 use Rattle.coding.specs.Bytes.{byteAt}
 use Rattle.block.specs.Block.{withSettings}
 use Rattle.block.specs.Sound.{soundSettings}
@@ -12,7 +14,7 @@ use Rattle.mapping.specs.Maps.{counted, mapLength}
 use Rattle.image.specs.Fields.{IMAGE-LENGTH, storedIn}
 use Rattle.image.specs.Load.{isFull, settingsIn}
 use Rattle.device.specs.States.{DISABLED}
-use Rattle.device.specs.Device.{withBlock}
+use Rattle.device.specs.Device.{blockOf, withBlockOf}
 use Rattle.device.specs.Events.{controlled, faulted, tickDevice, jumpDevice}
 use Rattle.device.specs.Sound.{soundDevice}
 use Rattle.device.specs.declared.Device.{Device}
@@ -117,17 +119,21 @@ storeAnswer d room =
     else if room below IMAGE-LENGTH then Refused NO-IMAGE-ROOM
     else Done
 
+-- the settings that are stored, and that a load replaces: those of the position block, whichever is selected
+abbrev pub storedSettings : Device → List ℤ
+storedSettings d = blockOf POSITION d .settings
+
 -- the room after it; a refusal writes nothing
 abbrev pub roomBy : Report → Device → List ℕ → List ℕ
-roomBy Done d room = storedIn (d .block .settings) room
+roomBy Done d room = storedIn (storedSettings d) room
 roomBy (Refused number) d room = room
 
 unfoldable pub storeRoom : Device → List ℕ → List ℕ
 storeRoom d room = roomBy (storeAnswer d (length room)) d room
 
--- the device with other settings, and all else as it was
+-- the device with other settings of the position block, and all else as it was
 abbrev pub loaded : List ℤ → Device → Device
-loaded settings d = withBlock (withSettings settings (d .block)) d
+loaded settings d = withBlockOf POSITION (withSettings settings (blockOf POSITION d)) d
 
 -- a load: 1, 9, 7, 8
 unfoldable pub loadAnswer : Device → List ℕ → Change

@@ -53,7 +53,7 @@ pub record StatusIs (d : Device) (r : Reading) : Type 0 where
 pub record ErrorIs (d : Device) (r : Reading) : Type 0 where
   pub result : r ≡ queryAnswer d (pos (d .error))
 
--- `position`, in 1/65,536 ir
+-- `position` of the selected block, in 1/65,536 ir
 pub record PositionIs (d : Device) (r : Reading) : Type 0 where
   pub result : r ≡ queryAnswer d (d .block .position)
 
@@ -78,7 +78,7 @@ pub record SendIs (d : Device) (before after : List ℕ) (r : Sent) : Type 0 whe
   pub result : r ≡ sendAnswer d (length before)
   pub bytes : after ≡ sendRoom d before
 
--- `store` of a device's settings, with the room for the image before and after
+-- `store` of the position block's settings, with the room for the image before and after
 pub record StoreIs (d : Device) (before after : List ℕ) (r : Report) : Type 0 where
   pub result : r ≡ storeAnswer d (length before)
   pub bytes : after ≡ storeRoom d before

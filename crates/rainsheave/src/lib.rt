@@ -46,6 +46,8 @@ use device::DISABLED;
 use device::Device;
 pub use mapping::RECEIVABLE;
 pub use mapping::SENDABLE;
+pub use objects::POSITION;
+pub use objects::PRESSURE;
 pub use objects::index;
 use sdo::Answer;
 use sdo::Outcome;
@@ -239,7 +241,7 @@ pub fn error(device: Device) -> Reading
     }
 }
 
-// The position, in 1/65,536 ir.
+// The position of the selected block, in 1/65,536 ir.
 pub fn position(device: Device) -> Reading
     ensures { λ r. ⌜ PositionIs device r ⌝ }
 {
@@ -317,7 +319,7 @@ pub fn send(device: Device, room: &mut [u8]) -> Sent
     Sent { length, report }
 }
 
-// The image of the device's settings goes to the first 97 bytes of the room.
+// The image of the position block's settings, whichever block is selected, goes to the first 97 bytes of the room.
 pub fn store(device: Device, room: &mut [u8]) -> Report
     ensures { λ r. ⌜ StoreIs device (now (room .entry)) (now (room .exit)) r ⌝ }
 {
@@ -327,13 +329,13 @@ pub fn store(device: Device, room: &mut [u8]) -> Report
     if room.len() < image::IMAGE_LENGTH {
         return Report::Refused(NO_IMAGE_ROOM);
     }
-    let block = device.block;
-    let settings = block.settings;
+    let stored = device::block_of(device, POSITION);
+    let settings = stored.settings;
     image::store(settings, room);
     Report::Done
 }
 
-// All the settings of a full image, or none.
+// All the settings of a full image, or none, go to the position block.
 pub fn load(device: Device, image: &[u8]) -> Change
     ensures { λ r. ⌜ LoadIs device (now (image .entry)) r ⌝ }
 {
@@ -350,8 +352,9 @@ pub fn load(device: Device, image: &[u8]) -> Change
     if !block::sound_settings(settings) {
         return refused(device, BAD_VALUE);
     }
-    let block = device.block;
-    done(device::with_block(device, block::with_settings(block, settings)))
+    let block = device::block_of(device, POSITION);
+    let block = block::with_settings(block, settings);
+    done(device::with_block_of(device, POSITION, block))
 }
 
 // The value bytes of the first field with a tag, as that part of the caller's own slice; empty where `find_code` is not 0.

@@ -20,19 +20,19 @@ use Rattle.sdo.specs.declared.Outcome.{Outcome}
 use Rattle.sdo.specs.declared.Outcome.the-variants.{Read, Written, Abort}
 
 -- a request that meets the fifth place: a write of so many bytes to the value of an object that can be written and has not so many
-pub record Meets (q : Request) (place size : ℕ) : Type 0 where
+pub record Meets (q : Request) (which place size : ℕ) : Type 0 where
   pub asks : asksOf (q .command) ≡ Writes size
-  pub found : named (q .index) (q .sub) ≡ value place
+  pub found : named (q .index) (q .sub) ≡ value which place
   pub below : place < WRITABLE
   pub differs : rowAt place .size ≢ size
 
 -- it is aborted with the code of that place
-pub meets-aborts : (d : Device) (q : Request) (place size : ℕ) → Meets q place size → served d q .outcome ≡ Abort (sizeCode (rowAt place .size) size)
+pub meets-aborts : (d : Device) (q : Request) (which place size : ℕ) → Meets q which place size → served d q .outcome ≡ Abort (sizeCode (rowAt place .size) size)
 unfolding served decisionOn writeDecision writeOf
-meets-aborts d q place size m = rw (m .asks, m .found, size-aborts d place size _ (below-writable place (m .below)) (m .differs))
+meets-aborts d q which place size m = rw (m .asks, m .found, size-aborts d which place size _ (below-writable place (m .below)) (m .differs))
 
 -- and what holds of that abort, of those with another place's code, and of all that is not aborted holds of every outcome
-pub by-outcome : (P : Outcome → Type 0) (d : Device) (q : Request) → ((place size : ℕ) → Meets q place size → P (Abort (sizeCode (rowAt place .size) size))) → ((code : ℕ) → Other code → P (Abort code)) → ((size number : ℕ) → P (Read size number)) → P Written → P (served d q .outcome)
+pub by-outcome : (P : Outcome → Type 0) (d : Device) (q : Request) → ((which place size : ℕ) → Meets q which place size → P (Abort (sizeCode (rowAt place .size) size))) → ((code : ℕ) → Other code → P (Abort code)) → ((size number : ℕ) → P (Read size number)) → P Written → P (served d q .outcome)
 unfolding served decisionOn
 by-outcome P d q meets other read written = by (asksOf (q .command)) refl
   where
@@ -43,7 +43,7 @@ by-outcome P d q meets other read written = by (asksOf (q .command)) refl
     by Reads f = by-read of d (q .index) (q .sub) other read
     by (Writes size) f =
         by-write of d (q .index) (q .sub) size (q .number)
-        (λ place n b s. meets place size (record { asks = f; found = n; below = b; differs = s }))
+        (λ which place n b s. meets which place size (record { asks = f; found = n; below = b; differs = s }))
         other
-        (λ place x. written)
+        (λ which place x. written)
     by Unknown f = other UNKNOWN-COMMAND refl

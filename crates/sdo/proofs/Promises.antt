@@ -2,12 +2,13 @@
 use mathlib.Core.Logic.{_≢_}
 use mathlib.Core.Path.{_≡_, refl}
 use Prim.Native.Nat.{ℕ, _<_, _%_}
-use lib.IntN.{ℤ}
 use Rattle.integers.proofs.Cases.{apart}
 use Rattle.objects.specs.Places.{WRITABLE}
+use Rattle.objects.specs.Lookup.{Object}
 use Rattle.coding.specs.Coding.{span}
 use Rattle.device.specs.Sound.{Sound}
 use Rattle.device.specs.declared.Device.{Device}
+use Rattle.dictionary.specs.Named.{value}
 use Rattle.dictionary.specs.Values.{valueAt}
 use Rattle.dictionary.specs.Decide.{carriedOut}
 use Rattle.dictionary.specs.declared.Decision.{Decision}
@@ -29,7 +30,7 @@ not-written-unchanged d q = by (decisionOn d q)
   where
     by : (v : Decision) → outcomeOf v ≢ Written → carriedOut v d ≡ d
     by (Reading size number) h = refl
-    by (Write place x) h = absurd (h refl)
+    by (Write which place x) h = absurd (h refl)
     by (Aborting code) h = refl
 
 pub abort-unchanged : (d : Device) (q : Request) (code : ℕ) → served d q .outcome ≡ Abort code → served d q .device ≡ d
@@ -57,10 +58,10 @@ acknowledged d q h = by-asks (asksOf (q .command)) refl
   where
     by-decision : (a : Asks) → asksOf (q .command) ≡ a → (v : Decision) → decisionBy a d q ≡ v → outcomeOf v ≡ Written → Acknowledged d q
     by-decision a f (Reading size number) e k = apart (cc)
-    by-decision Reads f (Write place x) e k = absurd (Decisions.read-writes-nothing d (q .index) (q .sub) place x e)
-    by-decision (Writes size) f (Write place x) e k =
-        record { place = place; size = size; x = x; asks = f; origin = Decisions.write-origin d (q .index) (q .sub) size (q .number) place x e; device = rw (f, e) }
-    by-decision Unknown f (Write place x) e k = apart (cc)
+    by-decision Reads f (Write which place x) e k = absurd (Decisions.read-writes-nothing d (q .index) (q .sub) which place x e)
+    by-decision (Writes size) f (Write which place x) e k =
+        record { which = which; place = place; size = size; x = x; asks = f; origin = Decisions.write-origin d (q .index) (q .sub) size (q .number) which place x e; device = rw (f, e) }
+    by-decision Unknown f (Write which place x) e k = apart (cc)
     by-decision a f (Aborting code) e k = apart (cc)
 
     by-asks : (a : Asks) → asksOf (q .command) ≡ a → Acknowledged d q
@@ -73,8 +74,8 @@ reading q = record { command = 0x40; sub = q .sub; index = q .index; number = 0 
 -- it is read back: the same size, and the bytes that were written
 pub read-back : {d : Device} → Sound d → (q : Request) (w : Acknowledged d q) → served (served d q .device) (reading q) .outcome ≡ Read (w .size) (q .number % span (w .size))
 unfolding served decisionOn asksOf
-read-back {d} s q w = rw (w .device, Decisions.read-back s (q .index) (q .sub) (w .size) (q .number) (w .place) (w .x) (w .origin))
+read-back {d} s q w = rw (w .device, Decisions.read-back s (q .index) (q .sub) (w .size) (q .number) (w .which) (w .place) (w .x) (w .origin))
 
 -- and every other object that can be written is as before
-pub others-unchanged : (d : Device) (q : Request) (w : Acknowledged d q) (k : ℕ) → k < WRITABLE → k ≢ w .place → valueAt (served d q .device) k ≡ valueAt d k
-others-unchanged d q w k h n = rw (w .device) (Decisions.others-unchanged (w .origin) k h n)
+pub others-unchanged : {d : Device} → Sound d → (q : Request) (w : Acknowledged d q) (v k : ℕ) → Object v k → k < WRITABLE → value v k ≢ value (w .which) (w .place) → valueAt (served d q .device) v k ≡ valueAt d v k
+others-unchanged s q w v k o h n = rw (w .device) (Decisions.others-unchanged s (w .origin) v k o h n)

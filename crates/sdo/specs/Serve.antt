@@ -1,5 +1,4 @@
 -- Document 01, "SDO": what a request is answered with, and the device after it.
-use Prim.Native.Nat.{ℕ}
 use Rattle.device.specs.declared.Device.{Device}
 use Rattle.dictionary.specs.Aborts.{UNKNOWN-COMMAND}
 use Rattle.dictionary.specs.Decide.{readDecision, writeDecision, carriedOut}
@@ -30,7 +29,7 @@ decisionOn d q = decisionBy (asksOf (q .command)) d q
 -- the outcome of a decision
 abbrev pub outcomeOf : Decision → Outcome
 outcomeOf (Reading size number) = Read size number
-outcomeOf (Write place x) = Written
+outcomeOf (Write which place x) = Written
 outcomeOf (Aborting code) = Abort code
 
 -- the answer to a request

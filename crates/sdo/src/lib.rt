@@ -128,7 +128,11 @@ fn outcome_of(decision: Decision) -> Outcome
 {
     match decision {
         Decision::Read { size, number } => Outcome::Read { size, number },
-        Decision::Write { place: _, value: _ } => Outcome::Written,
+        Decision::Write {
+            which: _,
+            place: _,
+            value: _,
+        } => Outcome::Written,
         Decision::Abort(code) => Outcome::Abort(code),
     }
 }

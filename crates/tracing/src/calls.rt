@@ -149,14 +149,18 @@ fn is_same_dither(a: Dither, b: Dither) -> bool {
 pub fn is_same(a: Device, b: Device) -> bool {
     let our_block = a.block;
     let their_block = b.block;
+    let our_other = a.other;
+    let their_other = b.other;
     let our_maps = a.maps;
     let their_maps = b.maps;
     let our_dither = a.dither;
     let their_dither = b.dither;
     a.state == b.state
+        && a.selected == b.selected
         && a.control == b.control
         && a.error == b.error
         && is_same_block(our_block, their_block)
+        && is_same_block(our_other, their_other)
         && has_same_maps(our_maps, their_maps)
         && is_same_dither(our_dither, their_dither)
 }

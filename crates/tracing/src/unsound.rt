@@ -1,4 +1,5 @@
 // Devices that are not sound.
+use block::Block;
 use device::ACTIVE;
 use device::DISABLED;
 use device::Device;
@@ -39,6 +40,11 @@ const ONLY_SENT: u32 = 0x60410010;
 
 const ONLY_RECEIVED: u32 = 0x60400010;
 
+// One more than the pressure block's number, and the highest that a block could have.
+const NO_BLOCK: u8 = 2;
+
+const LAST_BLOCK: u8 = 255;
+
 // The last phase of a period.
 const LAST_PHASE: u32 = 4294967295;
 
@@ -62,11 +68,6 @@ fn with_wrong_error(device: Device) -> Device {
 fn with_position(device: Device, position: i64) -> Device {
     let block = device.block;
     device::with_block(device, block::at_position(block, position))
-}
-
-fn with_settings(device: Device, settings: [i64; SETTINGS]) -> Device {
-    let block = device.block;
-    device::with_block(device, block::with_settings(block, settings))
 }
 
 fn with_set_point(device: Device, value: i64) -> Device {
@@ -95,12 +96,16 @@ fn below(word: u16) -> i64 {
     row.low - 1
 }
 
-fn with_crossed_limits(device: Device) -> Device {
-    let block = device.block;
+fn crossed(block: Block) -> Block {
     let mut settings = block.settings;
     settings[UPPER_LIMIT] = -1;
     settings[LOWER_LIMIT] = 0;
-    with_settings(device, settings)
+    block::with_settings(block, settings)
+}
+
+fn with_crossed_limits(device: Device) -> Device {
+    let block = device.block;
+    device::with_block(device, crossed(block))
 }
 
 // The smallest step out of where the position has to be, up or down: off rest, or beyond full stroke.
@@ -193,6 +198,33 @@ fn with_phase_at_rest(device: Device, state: u8, error: u16, phase: u32) -> Devi
     other
 }
 
+// ---- the two blocks
+
+fn with_selected(device: Device, selected: u8) -> Device {
+    let mut other = device;
+    other.selected = selected;
+    other
+}
+
+// The block that is not selected, made unsound in one of seven ways.
+fn broken_other(block: Block, way: u8, word: u16) -> Block {
+    let place = word as usize % SETTINGS;
+    match way {
+        20 => block::at_position(block, 1),
+        21 => block::at_position(block, -1),
+        22 => block::with_setting(block, place, above(word)),
+        23 => block::with_setting(block, place, below(word)),
+        24 => crossed(block),
+        25 => block::with_setpoint(block, SET_POINT_ABOVE),
+        _ => block::with_setpoint(block, SET_POINT_BELOW),
+    }
+}
+
+fn with_broken_other(device: Device, way: u8, word: u16) -> Device {
+    let block = device.other;
+    device::with_other(device, broken_other(block, way, word))
+}
+
 // ---- the ways
 
 // The device, made unsound in one of six ways.
@@ -207,8 +239,8 @@ pub fn altered(device: Device, way: u8, word: u16) -> Device {
     }
 }
 
-// The device, made unsound in one of nineteen further ways: one step beyond a range, at the ends of an i64, downward where `altered`
-// goes upward, in a map, and in the dither.
+// The device, made unsound in one of 28 further ways: one step beyond a range, at the ends of an i64, downward where `altered` goes
+// upward, in a map, in the dither, in the selection, and in the block that is not selected.
 pub fn broken(device: Device, way: u8, word: u16) -> Device {
     match way {
         0 => with_setting(device, word, above(word)),
@@ -229,6 +261,9 @@ pub fn broken(device: Device, way: u8, word: u16) -> Device {
         15 => with_dither_value(device, word, i64::MIN),
         16 => with_phase_at_rest(device, DISABLED, 0, 1),
         17 => with_phase_at_rest(device, FAULT, 1, LAST_PHASE),
+        18 => with_selected(device, NO_BLOCK),
+        19 => with_selected(device, LAST_BLOCK),
+        20..=26 => with_broken_other(device, way, word),
         _ => with_state(device, LAST_STATE),
     }
 }

@@ -2,12 +2,11 @@
 use mathlib.Core.Path.{_≡_, _∙_}
 use borrow.Author.Needs.{needs}
 use mir.Syntax.{w64}
-use mir.Val.{SFits, toZ, ofZ}
-use mir.Facts.{toZ-ofZ}
+use mir.Val.{toZ, ofZ}
 use Rattle.dictionary.proofs.carry_out.Statement.{statement}
 use Rattle.dictionary.proofs.carry_out.Tie as tie
 
-read-back : (c : tie.After-known-told) → toZ w64 (ofZ w64 (c .before .decision .given .0 .1 .0)) ≡ c .before .decision .given .0 .1 .0
+read-back : (c : tie.After-known-told) → toZ w64 (ofZ w64 (c .before .decision .given .0 .1 .1 .0)) ≡ c .before .decision .given .0 .1 .1 .0
 read-back c = search needs
 
 pub carry-out-spec : {M : Type 1} → statement M

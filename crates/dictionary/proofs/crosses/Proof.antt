@@ -14,6 +14,6 @@ crosses-spec =
     (tie.spec
     (λ c κs. search needs)
     (λ c κs. search needs)
-    (λ c. simp (told (c .setting), toZ-ofZ (c .before .before .before .fits .value), c .before .match .keys1))
-    (λ c. simp (told (c .setting2), toZ-ofZ (c .before .before .before .fits .value), c .before .match .keys2))
+    (λ c. simp (told (c .setting), toZ-ofZ (c .before .before .fits .value), c .before .match .keys1))
+    (λ c. simp (told (c .setting2), toZ-ofZ (c .before .before .fits .value), c .before .match .keys2))
     (λ c. simp (ne-eqb _ _ (c .match .rest .0 .1), ne-eqb _ _ (c .match .rest .1))))

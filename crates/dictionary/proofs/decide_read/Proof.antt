@@ -15,25 +15,25 @@ use Rattle.dictionary.specs.Decide.{readDecision, readOf}
 use Rattle.dictionary.proofs.decide_read.Statement.{statement}
 use Rattle.dictionary.proofs.decide_read.Tie as tie
 
-found : (c : tie.After-place) → placeOf (c .before .before .before .args .index) ≡ At (c .place .given .0 .0)
-found c = sym (c .before .before .place-of .ensures) ∙ c .place .given .1
+found : (c : tie.After-which) → placeOf (c .before .before .before .args .index) ≡ At (c .which .given .0 .0) (c .which .given .0 .1 .0)
+found c = sym (c .before .before .place-of .ensures) ∙ c .which .given .1
 
 -- what is named where there is no such object, and where there is one: what stands at the entry
 nowhere : (c : tie.After-place-of) → c .place-of .result ≡ Nowhere → named (c .before .args .index) (c .before .args .sub) ≡ nothing NO-OBJECT
 unfolding named
 nowhere c e = rw (← c .place-of .ensures, e)
 
-entry : (c : tie.After-entry-at) → let p = c .before .before .before in let a = p .before .before .before .args in named (a .index) (a .sub) ≡ entered (p .place .given .0 .0) (c .entry-at .result)
+entry : (c : tie.After-entry-at) → let p = c .before .before .before in let a = p .before .before .before .args in named (a .index) (a .sub) ≡ entered (p .which .given .0 .0) (p .which .given .0 .1 .0) (c .entry-at .result)
 unfolding named
 entry c = rw (found (c .before .before .before), c .entry-at .ensures, c .before .row-at .ensures)
 
 -- a value is within the table
-below : (c : tie.After-k) → c .before .before .before .before .before .place .given .0 .0 + c .k .given .0 .0 < ROWS
+below : (c : tie.After-k) → c .before .before .before .before .before .which .given .0 .1 .0 + c .k .given .0 .0 < ROWS
 below c =
     let e = c .before .before in
     let p = e .before .before .before in
-    let stands : entryAt (rowAt (p .place .given .0 .0) .entries) (p .before .before .before .args .sub) ≡ Value (c .k .given .0 .0) = rw (e .before .row-at .ensures) at (sym (e .entry-at .ensures) ∙ c .k .given .1) in
-    value-below _ _ _ (found-below _ _ (found p)) stands
+    let stands : entryAt (rowAt (p .which .given .0 .1 .0) .entries) (p .before .before .before .args .sub) ≡ Value (c .k .given .0 .0) = rw (e .before .row-at .ensures) at (sym (e .entry-at .ensures) ∙ c .k .given .1) in
+    value-below _ _ _ (found-below _ _ _ (found p)) stands
 
 pub decide-read-spec : {M : Type 1} → statement M
 unfolding readDecision readOf
@@ -43,7 +43,7 @@ decide-read-spec =
     (λ c κs. search needs)
     (λ c. search needs)
     (λ c. search needs)
-    (λ c κs. record { below = found-below _ _ (found (c .before)) })
+    (λ c κs. record { below = found-below _ _ _ (found (c .before)) })
     (λ c κs. search needs)
     (λ c. search needs)
     (λ c. search needs)

@@ -1,4 +1,4 @@
--- The code makes the definition's two tests.
+-- In an arm the lock is known, and the definition makes the arm's test of the state; another lock locks in no state.
 use borrow.Author.Tests.{ne-eqb}
 use Rattle.dictionary.specs.Decide.{isLocked}
 use Rattle.dictionary.proofs.is_locked.Statement.{statement}
@@ -9,5 +9,6 @@ unfolding isLocked
 is-locked-spec =
     tie.close
     (tie.spec
-    (λ c. rw (c .if1 .taken))
-    (λ c. rw (ne-eqb _ _ (c .if1 .left))))
+    (λ c. rw (c .match .keys1))
+    (λ c. rw (c .match .keys2))
+    (λ c. let none = c .match .rest in rw (ne-eqb _ _ (none .0 .1), ne-eqb _ _ (none .1))))

@@ -6,7 +6,7 @@ use lib.IntN.{pos}
 use mir.Syntax.{w64}
 use mir.Facts.{toZ-pos}
 use Rattle.mapping.proofs.Sound.{receive-small, transmit-small}
-use Rattle.device.proofs.Laws.{device-parts}
+use Rattle.device.proofs.Laws.{maps-of-sound}
 use Rattle.dictionary.proofs.Laws.{valued}
 use Rattle.objects.specs.Places.{RECEIVE-MAP, TRANSMIT-MAP}
 use Rattle.objects.proofs.Rules.{receive-map, transmit-map}
@@ -27,11 +27,11 @@ map-value-spec =
     let t = c .before .before in
     let s = t .before .before in
     let m : OfReceive (s .args .place) = (s .pre .of-map .from, t .if1 .taken) in
-    valued (value-of-receive (s .args .device) (s .args .place) m)
-    (toZ-pos w64 (omega arith) ∙ ap pos (c .stands-at .ensures), map-within receive-map m (receive-small (s .args .device .maps) (device-parts (s .pre .sound) .mapped) _ (sub-most m))))
+    valued (value-of-receive (s .args .device) (s .args .which) (s .args .place) m)
+    (toZ-pos w64 (omega arith) ∙ ap pos (c .stands-at .ensures), map-within receive-map m (receive-small (s .args .device .maps) (maps-of-sound (s .pre .sound)) _ (sub-most m))))
     (λ c.
     let t = c .before .before in
     let s = t .before .before in
     let m : OfTransmit (s .args .place) = (t .if1 .left, s .pre .of-map .below) in
-    valued (value-of-transmit (s .args .device) (s .args .place) m)
-    (toZ-pos w64 (omega arith) ∙ ap pos (c .stands-at2 .ensures), map-within transmit-map m (transmit-small (s .args .device .maps) (device-parts (s .pre .sound) .mapped) _ (sub-most m)))))
+    valued (value-of-transmit (s .args .device) (s .args .which) (s .args .place) m)
+    (toZ-pos w64 (omega arith) ∙ ap pos (c .stands-at2 .ensures), map-within transmit-map m (transmit-small (s .args .device .maps) (maps-of-sound (s .pre .sound)) _ (sub-most m)))))

@@ -14,6 +14,8 @@ use Rattle.integers.proofs.Machine.{lt-told, ok-fits}
 use Rattle.objects.specs.Table.{rowAt}
 use Rattle.objects.specs.declared.Row.{Row}
 use Rattle.coding.specs.Coding.{valueOf}
+use Rattle.block.specs.declared.Block.{Block}
+use Rattle.device.specs.Device.{blockOf}
 use Rattle.dictionary.specs.Decide.{crosses, isLocked, verdictOn, writeOf}
 use Rattle.dictionary.proofs.Laws.{between}
 use Rattle.dictionary.proofs.write_value.Statement.{statement}
@@ -61,16 +63,20 @@ module _ (v : tie.After-value-of) where
 
 -- past those of the range, and which the next one is
 abbrev read : tie.After-crosses → tie.After-value-of
-read c = c .before .before .before .before .before .before .before
+read c = c .before .before .before .before .before .before .before .before
 
 abbrev Ranged : tie.Start → Type 0
 Ranged s = (ltZ (rowAt (s .args .place) .high) (x s) ≡ false) × (ltZ (x s) (rowAt (s .args .place) .low) ≡ false)
 
 ranged : (c : tie.After-crosses) → Ranged (start (read c))
-ranged c = (over (read c) (c .before .before .before .before .if3 .left), under (read c) (c .before .if4 .left))
+ranged c = (over (read c) (c .before .before .before .before .before .if3 .left), under (read c) (c .before .before .if4 .left))
 
-crossed : (c : tie.After-crosses) → let s = start (read c) in crosses (s .args .device) (s .args .place) (x s) ≡ c .crosses .result
-crossed c = sym (rw (toZ-ofZ (value-fits (read c)), value (read c)) at (c .crosses .ensures))
+crossed : (c : tie.After-crosses) → let s = start (read c) in crosses (blockOf (s .args .which) (s .args .device)) (s .args .place) (x s) ≡ c .crosses .result
+crossed c =
+    let s = start (read c) in
+    sym (c .crosses .ensures
+    ∙ ap (λ (b : Block). crosses b (s .args .place) (toZ w64 (ofZ w64 (read c .value-of .result)))) (c .before .block-of .ensures)
+    ∙ ap (crosses (blockOf (s .args .which) (s .args .device)) (s .args .place)) (toZ-ofZ (value-fits (read c)) ∙ value (read c)))
 
 locked : (c : tie.After-is-locked) → let s = start (read (c .before .before)) in isLocked (rowAt (s .args .place) .lock) (s .args .device .state) ≡ c .is-locked .result
 locked c = sym (rw (start (read (c .before .before)) .pre .looked) at (c .is-locked .ensures))
@@ -98,6 +104,7 @@ write-value-spec =
     let v = h .before .before .before in
     let z = sized (v .before) in
     rw (z .0, z .1, over v (h .if3 .left), under v (c .before .if4 .taken), rw (start v .pre .looked) at (c .range-code2 .ensures)))
+    (λ c κs. search needs)
     (λ c κs. search needs)
     (λ c. let z = sized (read (c .before) .before) in let r = ranged (c .before) in rw (z .0, z .1, r .0, r .1, crossed (c .before) ∙ c .if5 .taken))
     (λ c κs. search needs)

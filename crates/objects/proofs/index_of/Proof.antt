@@ -4,7 +4,7 @@ use Prim.Native.Nat.{ℕ, _≤_, _<_}
 use native.Mathlib.Omega.{arith}
 use Rattle.integers.specs.Words.{each}
 use Rattle.integers.proofs.Cases.{none-below}
-use Rattle.objects.specs.Places.{RECEIVE-MAP, TRANSMIT-MAP, SET-POINT, CONTROL-WORD, STATUS-WORD, ERROR-CODE, COMMAND, ROWS}
+use Rattle.objects.specs.Places.{RECEIVE-MAP, TRANSMIT-MAP, SET-POINT, SELECTION, CONTROL-WORD, STATUS-WORD, ERROR-CODE, COMMAND, ROWS}
 use Rattle.objects.specs.Table.{objects, rowAt}
 use Rattle.objects.proofs.Rules.{map-index}
 use Rattle.objects.proofs.index_of.Statement.{statement}
@@ -13,8 +13,8 @@ use Rattle.objects.proofs.index_of.Tie as tie
 at : {place k : ℕ} → place ≡ k → rowAt k .index ≡ rowAt place .index
 at e = ap (λ (n : ℕ). rowAt n .index) (sym e)
 
--- past the maps, what is none of the four is the last
-last : {k : ℕ} {Before : Type 0} → SET-POINT ≤ k → k < ROWS → (((Before × (k ≡ SET-POINT → ⊥)) × (k ≡ CONTROL-WORD → ⊥)) × (k ≡ STATUS-WORD → ⊥)) × (k ≡ ERROR-CODE → ⊥) → k ≡ COMMAND
+-- past the maps, what is none of the five is the last
+last : {k : ℕ} {Before : Type 0} → SET-POINT ≤ k → k < ROWS → ((((Before × (k ≡ SET-POINT → ⊥)) × (k ≡ SELECTION → ⊥)) × (k ≡ CONTROL-WORD → ⊥)) × (k ≡ STATUS-WORD → ⊥)) × (k ≡ ERROR-CODE → ⊥) → k ≡ COMMAND
 last h l none = omega arith
 
 pub index-of-spec : {M : Type 1} → statement M
@@ -46,7 +46,8 @@ index-of-spec =
     (λ c. at (c .match .keys22))
     (λ c. at (c .match .keys23))
     (λ c. at (c .match .keys24))
-    (λ c. sym (map-index RECEIVE-MAP 0x1600 (unfold each in refl) (c .before .before .args .place) (none-below RECEIVE-MAP _ (c .before .match .rest .0 .0 .0 .0)) (c .if1 .taken)))
+    (λ c. at (c .match .keys25))
+    (λ c. sym (map-index RECEIVE-MAP 0x1600 (unfold each in refl) (c .before .before .args .place) (none-below RECEIVE-MAP _ (c .before .match .rest .0 .0 .0 .0 .0)) (c .if1 .taken)))
     (λ c. sym (map-index TRANSMIT-MAP 0x1A00 (unfold each in refl) (c .before .before .before .args .place) (c .before .if1 .left) (c .if2 .taken)))
     (λ c.
     let match = c .before .before in

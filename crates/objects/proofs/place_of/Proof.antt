@@ -1,38 +1,20 @@
--- A single index is found by computation, and a run where the table has it, by its computed test. What no arm takes is no row's index.
-use mathlib.Core.Path.{refl, sym, _∙_}
+-- The index is searched so far below as its block says, for that block. A pressure object's index is from 6380h on, so that nothing is taken from less.
+use mathlib.Core.Path.{_∙_}
 use native.Mathlib.Omega.{arith}
-use Rattle.integers.specs.Words.{each}
-use Rattle.objects.specs.Places.{CONTROL-WORD, UPPER-LIMIT, RAMP-TYPE, DEAD-BAND-TYPE, DITHER-TYPE}
-use Rattle.objects.specs.Table.{objects}
-use Rattle.objects.specs.Lookup.{placeFrom, placeOf}
-use Rattle.objects.proofs.Rules.{run-is-found, no-other-index}
+use borrow.Author.Needs.{needs}
+use Rattle.objects.specs.Lookup.{placeOf}
+use Rattle.objects.proofs.Rules.{block-most, counterpart-fits}
 use Rattle.objects.proofs.place_of.Statement.{statement}
 use Rattle.objects.proofs.place_of.Tie as tie
 
 pub place-of-spec : {M : Type 1} → statement M
-unfolding objects
+unfolding placeOf
 place-of-spec =
     tie.close
     (tie.spec
-    (λ c κs. omega arith)
-    (λ c κs. omega arith)
-    (λ c κs. omega arith)
-    (λ c κs. omega arith)
-    (λ c κs. omega arith)
-    (λ c. unfold placeOf placeFrom in rw (c .match .keys1))
-    (λ c. unfold placeOf placeFrom in rw (c .match .keys2))
-    (λ c. unfold placeOf placeFrom in rw (c .match .keys3))
-    (λ c. unfold placeOf placeFrom in rw (c .match .keys4))
-    (λ c. unfold placeOf placeFrom in rw (c .match .keys5))
-    (λ c. unfold placeOf placeFrom in rw (c .match .keys6))
-    (λ c. c .in-run .ensures ∙ sym (run-is-found CONTROL-WORD 0x6040 2 (unfold each placeOf placeFrom in refl) _ (omega arith) (omega arith)))
-    (λ c. c .in-run2 .ensures ∙ sym (run-is-found UPPER-LIMIT 0x6320 5 (unfold each placeOf placeFrom in refl) _ (omega arith) (omega arith)))
-    (λ c. c .in-run3 .ensures ∙ sym (run-is-found RAMP-TYPE 0x6330 7 (unfold each placeOf placeFrom in refl) _ (omega arith) (omega arith)))
-    (λ c. c .in-run4 .ensures ∙ sym (run-is-found DEAD-BAND-TYPE 0x6342 4 (unfold each placeOf placeFrom in refl) _ (omega arith) (omega arith)))
-    (λ c. c .in-run5 .ensures ∙ sym (run-is-found DITHER-TYPE 0x6360 3 (unfold each placeOf placeFrom in refl) _ (omega arith) (omega arith)))
-    (λ c. sym (no-other-index _ (omega arith) (omega arith)))
-    (λ c. sym (no-other-index _ (omega arith) (omega arith)))
-    (λ c. sym (no-other-index _ (omega arith) (omega arith)))
-    (λ c. sym (no-other-index _ (omega arith) (omega arith)))
-    (λ c. sym (no-other-index _ (omega arith) (omega arith)))
-    (λ c. sym (no-other-index _ (omega arith) (omega arith))))
+    (λ c κs. search needs)
+    (λ c. let most = block-most (c .before .args .index) in rw (c .block-number .ensures) (record { fits = omega arith }))
+    (λ c. let most = block-most (c .before .args .index) in rw (c .block-number .ensures) (record { fits = omega arith }))
+    (λ c. rw (c .block-number .ensures) (counterpart-fits (c .before .args .index)))
+    (λ c κs. search needs)
+    (λ c. c .place-in .ensures ∙ rw (c .before .block-number .ensures)))

@@ -17,10 +17,10 @@ use Rattle.coding.specs.Bytes.{byteAt, twoOf, fourOf}
 use Rattle.coding.specs.Coding.{valueOf}
 use Rattle.mapping.specs.Maps.{RECEIVABLE}
 use Rattle.mapping.proofs.Sound.{one-of-three}
-use Rattle.objects.specs.Places.{HOLD-SET-POINT}
+use Rattle.objects.specs.Places.{HOLD-SET-POINT, POSITION}
 use Rattle.block.specs.Block.{withSetting}
 use Rattle.block.specs.declared.Block.{Block}
-use Rattle.device.specs.Device.{withBlock}
+use Rattle.device.specs.Device.{blockOf, withBlockOf}
 use Rattle.device.specs.declared.Device.{Device}
 use Rattle.pdo.specs.Receive.{dataIn, acted}
 use Rattle.pdo.proofs.Objects.{low-two, word-acted, set-point-acted, hold-set-point-acted}
@@ -49,8 +49,8 @@ last : {entry : ℕ} → entry among RECEIVABLE ≡ true → (entry ≡ 0x604000
 last {entry} h f g = one-of-three 0x60400010 0x63000110 0x63140110 entry h (λ e. absurd (f e)) (λ e. absurd (g e)) (λ e. e)
 
 -- and it is the hold set point that is written last
-held : (d : Device) (bytes : List ℕ) (at : ℕ) {entry : ℕ} {x : ℤ} → entry ≡ 0x63140110 → x ≡ valueOf 2 true (twoOf (byteAt bytes at) (byteAt bytes (at + 1))) → withBlock (withSetting HOLD-SET-POINT x (d .block)) d ≡ acted entry (drop at bytes) d
-held d bytes at e h = rw (e, hold-set-point-acted d (drop at bytes)) (ap (λ (v : ℤ). withBlock (withSetting HOLD-SET-POINT v (d .block)) d) (h ∙ sym (value-there bytes at)))
+held : (d : Device) (bytes : List ℕ) (at : ℕ) {entry : ℕ} {x : ℤ} → entry ≡ 0x63140110 → x ≡ valueOf 2 true (twoOf (byteAt bytes at) (byteAt bytes (at + 1))) → withBlockOf POSITION (withSetting HOLD-SET-POINT x (blockOf POSITION d)) d ≡ acted entry (drop at bytes) d
+held d bytes at e h = rw (e, hold-set-point-acted d (drop at bytes)) (ap (λ (v : ℤ). withBlockOf POSITION (withSetting HOLD-SET-POINT v (blockOf POSITION d)) d) (h ∙ sym (value-there bytes at)))
 
 pub act-spec : {M : Type 1} → statement M
 act-spec =
@@ -67,9 +67,11 @@ act-spec =
     (λ c κs. search needs)
     (λ c κs. search needs)
     (λ c κs. search needs)
+    (λ c κs. search needs)
+    (λ c κs. search needs)
     (λ c.
     let m = c .before in
-    let t = m .before .before .before in
+    let t = m .before .before in
     let y = t .before in
     let x = y .before in
     let s = x .before .before in
@@ -79,15 +81,18 @@ act-spec =
     c .control .ensures ∙ rw (m .match .keys1, word-acted, word-there bytes (s .args .at) one two, t .two-of .ensures, y .byte-at2 .ensures, x .byte-at .ensures))
     (λ c.
     let w = c .before in
-    let m = w .before in
-    let v = m .before .before in
+    let b = w .before in
+    let m = b .before in
+    let v = m .before in
     let s = v .before .before .before .before .before in
     let value = written v in
-    c .with-block .ensures ∙ simp (w .with-setpoint .ensures, value, m .match .keys2, set-point-acted, value-there (s .args .pdo .now) (s .args .at)))
+    c .with-block-of .ensures ∙ simp (w .with-setpoint .ensures, b .block-of .ensures, value, m .match .keys2, set-point-acted, value-there (s .args .pdo .now) (s .args .at)))
     (λ c.
     let w = c .before in
-    let m = w .before in
-    let v = m .before .before in
+    let b = w .before in
+    let m = b .before in
+    let v = m .before in
     let s = v .before .before .before .before .before in
-    c .with-block2 .ensures ∙ ap (λ (b : Block). withBlock b (s .args .device)) (w .with-setting .ensures)
-    ∙ held (s .args .device) (s .args .pdo .now) (s .args .at) (last (s .pre .mapped) (m .match .rest .0 .1) (m .match .rest .1)) (written v)))
+    let d = s .args .device in
+    c .with-block-of2 .ensures ∙ ap (λ (b : Block). withBlockOf POSITION b d) (w .with-setting .ensures ∙ rw (b .block-of2 .ensures))
+    ∙ held d (s .args .pdo .now) (s .args .at) (last (s .pre .mapped) (m .match .rest .0 .1) (m .match .rest .1)) (written v)))

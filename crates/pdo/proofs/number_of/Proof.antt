@@ -23,10 +23,10 @@ number-of-spec =
     (λ c. search needs)
     (λ c. search needs)
     (λ c κs. search needs)
-    (λ c κs. rw (toZ-ofZ (ok-fits (c .command .ok)), c .command .ensures) (command-held _))
+    (λ c κs. rw (toZ-ofZ (ok-fits (c .command-of .ok)), c .command-of .ensures) (command-held _))
     (λ c. rw (c .before .match .keys1, status-read, positive-number) (c .status .ensures))
     (λ c. rw (c .before .match .keys2, error-read, positive-number))
     (λ c.
     let w = c .before in
     let m = w .before in
-    c .number-of .ensures ∙ rw (toZ-ofZ (ok-fits (w .command .ok)), last (m .before .pre .mapped) (m .match .rest .0 .1) (m .match .rest .1), command-read, w .command .ensures)))
+    c .number-of .ensures ∙ rw (toZ-ofZ (ok-fits (w .command-of .ok)), last (m .before .pre .mapped) (m .match .rest .0 .1) (m .match .rest .1), command-read, w .command-of .ensures)))

@@ -45,6 +45,7 @@ load-spec =
     (λ c κs. search needs)
     (λ c κs. search needs)
     (λ c κs. search needs)
+    (λ c κs. search needs)
     (λ c.
     let w = c .before .before .before .before in
     let sound = w .before in
@@ -55,4 +56,4 @@ load-spec =
     let s = t .before .is-sound in
     let f = full .is-full in
     let g = sound .sound-settings in
-    record { result = rw (← s .ensures, not-false (s .result) (t .if1 .left), eq-eqb _ _ (u .if2 .left), ← f .ensures, not-false (f .result) (v .if3 .left), ← sound .before .settings-in .ensures, ← g .ensures, not-false (g .result) (w .if4 .left), c .done .ensures, c .before .with-block .ensures, c .before .before .with-settings .ensures) }))
+    record { result = rw (← s .ensures, not-false (s .result) (t .if1 .left), eq-eqb _ _ (u .if2 .left), ← f .ensures, not-false (f .result) (v .if3 .left), ← sound .before .settings-in .ensures, ← g .ensures, not-false (g .result) (w .if4 .left), c .done .ensures, c .before .with-block-of .ensures, c .before .before .with-settings .ensures, c .before .before .before .block-of .ensures) }))

@@ -1,6 +1,6 @@
 -- The code and the definition make the same two tests. A refusal writes nothing, and the settings of a sound device are sound.
 use mathlib.Core.List.{List}
-use mathlib.Core.Path.{_≡_, refl, sym}
+use mathlib.Core.Path.{_≡_, refl, sym, _∙_}
 use Prim.Native.Nat.{ℕ}
 use native.Mathlib.Omega.{arith}
 use borrow.Author.Needs.{needs}
@@ -28,12 +28,15 @@ store-spec =
     (λ c κs. search needs)
     (λ c. fixed (rw (← c .before .is-sound .ensures, c .if1 .taken)) refl)
     (λ c. let t = c .before in fixed (rw (← t .before .is-sound .ensures, t .if1 .left, lt-ltb _ _ (c .if2 .taken))) refl)
+    (λ c κs. search needs)
     (λ c κs.
-    let t = c .before .before .before in
+    let b = c .before .before in
+    let t = b .before in
     let i = t .before .before .is-sound in
-    record { sound = settings-are-sound (sound (i .ensures) (not-false _ (t .before .if1 .left))); room = omega arith })
+    record { sound = rw (b .block-of .ensures) (settings-are-sound (sound (i .ensures) (not-false _ (t .before .if1 .left)))); room = omega arith })
     (λ c. search needs)
     (λ c.
     let stored = c .before .before in
-    let t = stored .before .before .before .before in
-    fixed (rw (← t .before .before .is-sound .ensures, t .before .if1 .left, le-ltb _ _ (t .if2 .left))) (stored .store .ensures)))
+    let b = stored .before .before .before in
+    let t = b .before in
+    fixed (rw (← t .before .before .is-sound .ensures, t .before .if1 .left, le-ltb _ _ (t .if2 .left))) (stored .store .ensures ∙ rw (b .block-of .ensures))))
