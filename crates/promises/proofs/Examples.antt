@@ -11,7 +11,7 @@ use Rattle.block.specs.Command.{wholeOf, banded, bandedBy, bandedOf, commandOf}
 use Rattle.block.specs.Sound.{soundSettings, soundBlock}
 use Rattle.block.specs.Target.{inputOf, clampTo, clampToStroke, scaledBy, targetFrom, targetOf, targetPosition}
 use Rattle.block.specs.Travel.{tickBlock, ticksToGoOf}
-use Rattle.device.specs.Device.{freshDevice, blockOf, withBlockOf}
+use Rattle.device.specs.Device.{freshDevice, blockOf, withBlockOf, selecting}
 use Rattle.device.specs.Events.{blockIn, ditherIn, errorIn, entering, controlled, reported, faulted, tickDevice}
 use Rattle.device.specs.Queries.{targetMet, statusOf, deviceTarget, deviceCommand, deviceTicksToGo, blockCommand}
 use Rattle.dither.specs.Dither.{freshDither}
@@ -27,7 +27,7 @@ use Rattle.device.specs.States.{fromDisabled, fromHold, fromActive, fromFault, 
 use Rattle.dictionary.specs.Decide.{crosses, isLocked, mapRuling, verdictOn, readOf, readDecision, writeOf, writeDecision}
 use Rattle.dictionary.specs.Named.{named}
 use Rattle.dictionary.specs.Values.{valueAt, writtenTo}
-use Rattle.sdo.specs.Frames.{asksOf, frameOf, repliedIn}
+use Rattle.sdo.specs.Frames.{asksOf, frameOf, repliedIn, readReply}
 use Rattle.sdo.specs.Serve.{decisionOn, served}
 use Rattle.pdo.specs.Receive.{acted, received}
 use Rattle.pdo.specs.Send.{sentBy, sent, sentIn}
@@ -62,7 +62,7 @@ examples =
     }
 
 pub witnesses : Witnesses
-unfolding each objects isSigned blockNumber placeFrom placeOf recordEntry entryAt fourBytes span inSpan valueOf awayTime backTime stepOf opposite decelerates distance toward moved halts stop stride tickOf roundedUp ticksToZero ticksToGo freshBlock freshDither increment advanced tickDither soundDither ditherOf square height triangle wholeOf banded bandedBy bandedOf commandOf liesIn soundSettings soundBlock inputOf clampTo clampToStroke scaledBy targetFrom targetOf targetPosition tickBlock ticksToGoOf freshDevice blockOf withBlockOf blockIn ditherIn errorIn entering controlled reported faulted tickDevice deviceTarget deviceCommand blockCommand deviceTicksToGo isState errorFits rests selectionFits soundDevice freshMap freshMaps mayStand soundMap soundMaps fromDisabled fromHold fromFault nextState driven crosses isLocked mapRuling verdictOn writeOf writeDecision named writtenTo asksOf frameOf repliedIn decisionOn served tickAnswer queryAnswer sdoAnswer sdoRoom controlAnswer faultAnswer afterAll fromActive altersNothing withAt eachMapped isRight rulingOn mapLength acted received sentBy sent sentIn readOf readDecision numberOf valueAt targetMet statusOf receiveAnswer sendAnswer sendRoom Dithers.withAt
+unfolding each objects isSigned blockNumber placeFrom placeOf recordEntry entryAt fourBytes span inSpan valueOf awayTime backTime stepOf opposite decelerates distance toward moved halts stop stride tickOf roundedUp ticksToZero ticksToGo freshBlock freshDither increment advanced tickDither soundDither ditherOf square height triangle wholeOf banded bandedBy bandedOf commandOf liesIn soundSettings soundBlock inputOf clampTo clampToStroke scaledBy targetFrom targetOf targetPosition tickBlock ticksToGoOf freshDevice blockOf withBlockOf blockIn ditherIn errorIn entering controlled reported faulted tickDevice deviceTarget deviceCommand blockCommand deviceTicksToGo isState errorFits rests selectionFits soundDevice freshMap freshMaps mayStand soundMap soundMaps fromDisabled fromHold fromFault nextState driven crosses isLocked mapRuling verdictOn writeOf writeDecision named writtenTo asksOf frameOf repliedIn decisionOn served tickAnswer queryAnswer sdoAnswer sdoRoom controlAnswer faultAnswer afterAll fromActive altersNothing withAt eachMapped isRight rulingOn mapLength acted received sentBy sent sentIn readOf readDecision numberOf valueAt targetMet statusOf receiveAnswer sendAnswer sendRoom Dithers.withAt selecting readReply
 witnesses =
     record {
       longest = refl;
@@ -83,5 +83,8 @@ witnesses =
       over-the-end = refl;
       phase-goes-on = refl;
       phase-after-fault = refl;
+      pressure-drives = refl;
+      commands-read = refl;
+      position-again = refl;
       factor-counts = refl;
     }

@@ -91,6 +91,11 @@ deadBand r = choice 0x6342 1 ∷ word 0x6345 (pos 20) ∷ word 0x6343 (pos 300) 
 abbrev dither : ℕ → ℤ → ℤ → List Call
 dither kind amplitude frequency = choice 0x6360 kind ∷ word 0x6361 amplitude ∷ word 0x6362 frequency ∷ control 1 ∷ []
 
+-- the pressure block selected, its upper limit at 5000 and its set point at 10000, the position block's set point at 77, in ACTIVE after a tick
+abbrev pressed : List Call
+pressed =
+    choice 0x2000 1 ∷ word 0x63A0 (pos 5000) ∷ word 0x6380 (pos 10000) ∷ word 0x6300 (pos 77) ∷ control 7 ∷ control 7 ∷ tick ∷ []
+
 -- a PDO brings the control word and the set point; it brings the control word twice; one is sent with the status word and the command
 abbrev cyclic : List Call
 cyclic = mapEntry 0x1600 1 0x60400010 ∷ mapEntry 0x1600 2 0x63000110 ∷ mapCount 0x1600 2 ∷ []
@@ -189,5 +194,12 @@ pub record Witnesses : Type 0 where
   -- the phase goes on from HOLD to ACTIVE and back, and is 0 after a fault
   pub phase-goes-on : history (dither 1 (pos 7) (pos 250) ++ (tick ∷ control 7 ∷ tick ∷ control 1 ∷ tick ∷ [])) .dither .phase ≡ 3221225472
   pub phase-after-fault : history (dither 1 (pos 7) (pos 250) ++ (tick ∷ control 7 ∷ tick ∷ fault 0x1000 ∷ [])) .dither .phase ≡ 0
+  -- the pressure block drives the valve to its own limit; 6390h reads 5000, and 6310h 0
+  pub pressure-drives : answer position pressed ∷ [] ≡ ir (pos 5000 ∷ [])
+  pub commands-read :
+      map (λ low. left (sdo (0x40 ∷ low ∷ 0x63 ∷ 0x01 ∷ 0x00 ∷ 0x00 ∷ 0x00 ∷ 0x00 ∷ []) zeros) (history pressed)) (0x90 ∷ 0x10 ∷ [])
+      ≡ (0x4B ∷ 0x90 ∷ 0x63 ∷ 0x01 ∷ 0x88 ∷ 0x13 ∷ 0x00 ∷ 0x00 ∷ []) ∷ (0x4B ∷ 0x10 ∷ 0x63 ∷ 0x01 ∷ 0x00 ∷ 0x00 ∷ 0x00 ∷ 0x00 ∷ []) ∷ []
+  -- and with the position block selected again, by DISABLED, the valve goes to the set point of that
+  pub position-again : answer position (pressed ++ (control 0 ∷ choice 0x2000 0 ∷ control 7 ∷ control 7 ∷ tick ∷ [])) ∷ [] ≡ ir (pos 77 ∷ [])
   -- the factor counts: with the largest, an input of 1 is at full stroke
   pub factor-counts : answer target (factor 4294967295 ∷ input (pos 1) ∷ []) ≡ told (pos 16384)

@@ -72,7 +72,9 @@ pub record PressureMode (d : Device) : Type 0 where
       (n a b c : ℕ) (room : List ℕ) → d .state ≡ DISABLED → n ≤ 1 → 8 ≤ length room →
       Chosen d n (sdoAnswer d (writingSelection n a b c) (length room))
   -- and in every state it reads the number of the selected block
-  pub selection-read : (c : Data) (r : List ℕ) → 8 ≤ length r → sdoRoom d (reading 0x2000 0 c) r ≡ frame 0x4F 0x2000 0 (d .selected ∷ 0 ∷ 0 ∷ 0 ∷ []) ++ drop 8 r
+  pub selection-read :
+      (c : Data) (r : List ℕ) → 8 ≤ length r →
+      sdoRoom d (reading 0x2000 0 c) r ≡ frame 0x4F 0x2000 0 (d .selected ∷ 0 ∷ 0 ∷ 0 ∷ []) ++ drop 8 r
   -- ---- 6310h and 6390h: of the selected block what `command` answers is read, and 0 of the other
   pub command-of-selected :
       (c : Data) (r : List ℕ) → 8 ≤ length r →
