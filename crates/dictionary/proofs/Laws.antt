@@ -111,7 +111,7 @@ pub valued : {d : Device} {which place : ℕ} {r v : ℤ} → valueAt d which pl
 valued e h = record { value = h .0 ∙ sym e; range = rw (h .0) (h .1) }
 
 -- a value of the control word is a word, and one of the selection the number of a block
-number-within : {most : ℕ} (x : ℤ) → Within (pos 0) (pos most) x → T (nonNeg x) × (natAbs x ≤ most)
+pub number-within : {most : ℕ} (x : ℤ) → Within (pos 0) (pos most) x → T (nonNeg x) × (natAbs x ≤ most)
 number-within (pos n) w = (tt, omega (arith, ints))
 number-within (negsuc n) w = absurd (omega (arith, ints))
 

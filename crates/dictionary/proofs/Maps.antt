@@ -5,7 +5,7 @@ use Prim.Native.Nat.{ℕ, _+_, _-_, _≤_, _<_}
 use native.Mathlib.Omega.{arith}
 use borrow.Author.Tests.{lt-ltb, le-ltb}
 use lib.Dec.{T, ltb}
-use lib.IntN.{ℤ, pos, negsuc, natAbs}
+use lib.IntN.{ℤ, pos, natAbs}
 use lib.Signed.{_≤ℤ_, nonNeg}
 use mir.Syntax.{w32}
 use mir.Val.{Fits}
@@ -24,6 +24,7 @@ use Rattle.device.specs.declared.Device.{Device}
 use Rattle.dictionary.specs.Values.{valueAt}
 use Rattle.dictionary.specs.Decide.{mapRuling}
 use Rattle.dictionary.specs.Asked.{OfMap}
+use Rattle.dictionary.proofs.Laws.{number-within}
 
 -- ---- places
 
@@ -66,13 +67,9 @@ sub-apart m q e = omega (arith, m .0, q .0, e)
 
 -- ---- ranges
 
--- the numbers from 0 to the highest at a sub-index are its values, and its values are such numbers
+-- the numbers from 0 to the highest at a sub-index are its values
 within : {low high : ℤ} {n most : ℕ} → low ≡ pos 0 → high ≡ pos most → n ≤ most → Within low high (pos n)
 within l h m = rw (l, h) (record { from = omega (arith, ints); to = omega (arith, ints, m) })
-
-number-most : {most : ℕ} (x : ℤ) → Within (pos 0) (pos most) x → T (nonNeg x) × (natAbs x ≤ most)
-number-most (pos n) w = (tt, omega (arith, ints, w .to))
-number-most (negsuc n) w = absurd (omega (arith, ints, w .from))
 
 module _ {first : ℕ} (map : IsMap first) {place : ℕ} (m : In first place) where
   range : (rowAt place .low ≡ pos 0) × (rowAt place .high ≡ pos (mostAt (place - first)))
@@ -82,7 +79,7 @@ module _ {first : ℕ} (map : IsMap first) {place : ℕ} (m : In first place) wh
   map-within h = within (range .0) (range .1) h
 
   pub sub-number : (x : ℤ) → InRange place x → T (nonNeg x) × (natAbs x ≤ mostAt (place - first))
-  sub-number x w = number-most x (rw (range .0, range .1) at w)
+  sub-number x w = number-within x (rw (range .0, range .1) at w)
 
   pub from-zero : {x : ℤ} → InRange place x → pos 0 ≤ℤ x
   from-zero w = rw (range .0) at (w .from)

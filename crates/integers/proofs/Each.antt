@@ -37,17 +37,18 @@ each-at (suc n) f k t h =
     let s = and-split (each n f) (f n) t in
     ⊎-elim (λ (q : k ≡ n). subst (λ (m : ℕ). f m ≡ true) (sym q) (s .1)) (λ (q : k < n). each-at n f k (s .0) q) (eq-or-lt-of-le (le-of-suc-le-suc h))
 
+-- four tests, two and two
+pub and-across : (a b c d : Bool) → ((a && b) && (c && d)) ≡ ((a && c) && (b && d))
+and-across true true c d = refl
+and-across true false true d = refl
+and-across true false false d = refl
+and-across false b c d = refl
+
 -- two tests of each number are one test of each and the other
 pub each-and : (n : ℕ) (f g : ℕ → Bool) → each n (λ k. f k && g k) ≡ (each n f && each n g)
 unfolding each
 each-and zero f g = refl
-each-and (suc n) f g = rw (each-and n f g) (four (each n f) (each n g) (f n) (g n))
-  where
-    four : (a b c d : Bool) → ((a && b) && (c && d)) ≡ ((a && c) && (b && d))
-    four true true c d = refl
-    four true false true d = refl
-    four true false false d = refl
-    four false b c d = refl
+each-and (suc n) f g = rw (each-and n f g) (and-across (each n f) (each n g) (f n) (g n))
 
 pub each-all : (n : ℕ) (f : ℕ → Bool) → ((k : ℕ) → k < n → f k ≡ true) → each n f ≡ true
 unfolding each

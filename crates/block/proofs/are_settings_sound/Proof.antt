@@ -1,6 +1,6 @@
 -- The loop has shown both tests of each place that it passed, so those of each of the two. Where it stops early, one of them fails.
-use mathlib.Core.Path.{_≡_, refl, sym, _∙_}
-use mathlib.Core.Bool.{Bool, true, false, _&&_}
+use mathlib.Core.Path.{_≡_, sym, _∙_}
+use mathlib.Core.Bool.{Bool, true, _&&_}
 use mathlib.Core.List.{List}
 use Prim.Native.Nat.{ℕ, _-_, _≤_}
 use native.Mathlib.Omega.{arith}
@@ -9,7 +9,7 @@ use borrow.Author.Tests.{not-true, not-false, eq-eqb}
 use lib.IntN.{ℤ}
 use lib.ListN.{length}
 use Rattle.integers.specs.Words.{each, _≤?_}
-use Rattle.integers.proofs.Each.{each-none, each-more, each-fails, each-and}
+use Rattle.integers.proofs.Each.{each-none, each-more, each-fails, and-across, each-and}
 use Rattle.objects.specs.Table.{rowAt, inRow}
 use Rattle.objects.specs.Places.{SETTINGS, UPPER-LIMIT, LOWER-LIMIT}
 use Rattle.block.specs.Block.{at}
@@ -27,17 +27,11 @@ abbrev uncrossed : List ℤ → Bool
 uncrossed settings = at settings LOWER-LIMIT ≤? at settings UPPER-LIMIT
 
 -- the definition, of two lists of the right length: the ranges of both, and the limits of both
-by-kinds : (p q s t : Bool) → ((p && q) && (s && t)) ≡ ((p && s) && (q && t))
-by-kinds true true s t = refl
-by-kinds true false true t = refl
-by-kinds true false false t = refl
-by-kinds false q s t = refl
-
 both : (settings others : List ℤ) → length settings ≡ SETTINGS → length others ≡ SETTINGS → (each SETTINGS (bothIn settings others) && (uncrossed settings && uncrossed others)) ≡ (soundSettings settings && soundSettings others)
 unfolding soundSettings
 both settings others l m =
     rw (eq-eqb (length settings) SETTINGS l, eq-eqb (length others) SETTINGS m, each-and SETTINGS (inRange settings) (inRange others))
-    (by-kinds (each SETTINGS (inRange settings)) (each SETTINGS (inRange others)) (uncrossed settings) (uncrossed others))
+    (and-across (each SETTINGS (inRange settings)) (each SETTINGS (inRange others)) (uncrossed settings) (uncrossed others))
 
 abbrev Inv-loop : tie.InvT-loop
 Inv-loop settings others place₀ place = (place ≤ SETTINGS) × (each place (bothIn settings others) ≡ true)
