@@ -50,15 +50,15 @@ module _ (which place : ℕ) (x : ℤ) (d : Device) where
   unfolding writtenTo
   to-setting h = rw (lt-ltb place SETTINGS h)
 
-  to-dither : OfDither place → writtenTo which place x d ≡ withDither (Dithers.withAt (place - DITHER-TYPE) x (d .dither)) d
+  pub to-dither : OfDither place → writtenTo which place x d ≡ withDither (Dithers.withAt (place - DITHER-TYPE) x (d .dither)) d
   unfolding writtenTo
   to-dither m = rw (le-ltb place SETTINGS (m .0), lt-ltb place RECEIVE-MAP (m .1))
 
-  to-receive : OfReceive place → writtenTo which place x d ≡ receiveWritten (place - RECEIVE-MAP) (natAbs x) d
+  pub to-receive : OfReceive place → writtenTo which place x d ≡ receiveWritten (place - RECEIVE-MAP) (natAbs x) d
   unfolding writtenTo
   to-receive m = rw (past-settings (m .0), le-ltb place RECEIVE-MAP (m .0), lt-ltb place TRANSMIT-MAP (m .1))
 
-  to-transmit : OfTransmit place → writtenTo which place x d ≡ transmitWritten (place - TRANSMIT-MAP) (natAbs x) d
+  pub to-transmit : OfTransmit place → writtenTo which place x d ≡ transmitWritten (place - TRANSMIT-MAP) (natAbs x) d
   unfolding writtenTo
   to-transmit m = rw (past-settings (past-receive m), le-ltb place RECEIVE-MAP (past-receive m), le-ltb place TRANSMIT-MAP (m .0), lt-ltb place SET-POINT (m .1))
 
@@ -66,16 +66,16 @@ module _ (which place : ℕ) (x : ℤ) (d : Device) where
   unfolding writtenTo
   to-setpoint e = rw e
 
-  to-selection : place ≡ SELECTION → writtenTo which place x d ≡ selecting (natAbs x) d
+  pub to-selection : place ≡ SELECTION → writtenTo which place x d ≡ selecting (natAbs x) d
   unfolding writtenTo
   to-selection e = rw e
 
-  to-control : place ≡ CONTROL-WORD → writtenTo which place x d ≡ controlled (natAbs x) d
+  pub to-control : place ≡ CONTROL-WORD → writtenTo which place x d ≡ controlled (natAbs x) d
   unfolding writtenTo
   to-control e = rw e
 
 -- what can be written is a setting, of the dither, of a map, the set point, the selection or the control word
-by-target {ℓ} : (place : ℕ) {X : Type ℓ} → place < WRITABLE → (place < SETTINGS → X) → (OfDither place → X) → (OfReceive place → X) → (OfTransmit place → X) → (place ≡ SET-POINT → X) → (place ≡ SELECTION → X) → (place ≡ CONTROL-WORD → X) → X
+pub by-target {ℓ} : (place : ℕ) {X : Type ℓ} → place < WRITABLE → (place < SETTINGS → X) → (OfDither place → X) → (OfReceive place → X) → (OfTransmit place → X) → (place ≡ SET-POINT → X) → (place ≡ SELECTION → X) → (place ≡ CONTROL-WORD → X) → X
 by-target place h f d r t g s k =
     by-less place SETTINGS f
     (λ l. by-less place RECEIVE-MAP (λ m. d (l, m))
@@ -93,7 +93,7 @@ value-of-setting d which k h = rw (lt-ltb k SETTINGS h)
 -- ---- the object has the value
 
 -- what is not below zero is the number that it is written as
-written-number : {x : ℤ} → pos 0 ≤ℤ x → pos (natAbs x) ≡ x
+pub written-number : {x : ℤ} → pos 0 ≤ℤ x → pos (natAbs x) ≡ x
 written-number {x} h = pos-natAbs x (yes-nonNeg h)
 
 -- a row from 0 up has no value below zero

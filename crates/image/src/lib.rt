@@ -151,7 +151,7 @@ pub fn settings_in(image: &[u8]) -> [i64; SETTINGS]
 // ---- searching
 
 // The walk over the fields of any slice, to the first one so tagged.
-fn locate(image: &[u8], tag: u8) -> Found
+pub fn locate(image: &[u8], tag: u8) -> Found
     ensures { λ r. ⌜ Walked (now (image .entry)) tag r ⌝ }
 {
     let mut k = 0;

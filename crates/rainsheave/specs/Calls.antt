@@ -18,13 +18,17 @@ use Rattle.device.specs.Device.{blockOf, withBlockOf}
 use Rattle.device.specs.Events.{controlled, faulted, tickDevice, jumpDevice}
 use Rattle.device.specs.Sound.{soundDevice}
 use Rattle.device.specs.declared.Device.{Device}
+use Rattle.dictionary.specs.declared.Decision.{Decision}
 use Rattle.sdo.specs.Frames.{FRAME, requestOf, repliedIn}
-use Rattle.sdo.specs.Serve.{answer, served}
+use Rattle.sdo.specs.Serve.{answer, decisionOn, served}
 use Rattle.sdo.specs.declared.Answer.{Answer}
-use Rattle.sdo.specs.declared.Outcome.the-variants.{Refused as Refuse}
+use Rattle.sdo.specs.declared.Outcome.{Outcome}
+use Rattle.sdo.specs.declared.Outcome.the-variants.{Read, Written, Abort, Refused as Refuse}
 use Rattle.pdo.specs.Receive.{received}
 use Rattle.pdo.specs.Send.{sentIn}
 use Rattle.rainsheave.specs.Numbers.{UNSOUND, WRONG-LENGTH, NO-ROOM, NO-REPLY-DUE, NO-FAULT, NO-IMAGE-ROOM, NOT-FULL, BAD-VALUE, NOT-DISABLED, SHORT-PDO}
+use Rattle.rainsheave.specs.declared.Settled.{Settled}
+use Rattle.rainsheave.specs.declared.Settled.the-variants.{Refused as SettleRefused, Decided}
 use Rattle.rainsheave.specs.declared.Report.{Report}
 use Rattle.rainsheave.specs.declared.Report.the-variants.{Done, Refused}
 use Rattle.rainsheave.specs.declared.Change.{Change}
@@ -70,6 +74,16 @@ sdoAnswer d request room =
     else if room below FRAME then answer (Refuse NO-ROOM) d
     else if isClientAbort (byteAt request 0) then answer (Refuse NO-REPLY-DUE) d
     else served d (requestOf request)
+
+-- what becomes of it before anything is carried out: the answer's refusal, or else what was decided
+abbrev pub settledBy : Outcome → Decision → Settled
+settledBy (Refuse number) decision = SettleRefused number
+settledBy (Read size number) decision = Decided decision
+settledBy Written decision = Decided decision
+settledBy (Abort code) decision = Decided decision
+
+unfoldable pub sdoSettled : Device → List ℕ → ℕ → Settled
+sdoSettled d request room = settledBy (sdoAnswer d request room .outcome) (decisionOn d (requestOf request))
 
 -- the room after it: the reply in the first eight bytes, and later bytes as they were; a refusal writes nothing
 unfoldable pub sdoRoom : Device → List ℕ → List ℕ → List ℕ

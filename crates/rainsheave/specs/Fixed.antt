@@ -8,9 +8,10 @@ use Rattle.device.specs.Device.{freshDevice}
 use Rattle.device.specs.Queries.{statusOf, deviceTarget, deviceCommand, deviceTicksToGo}
 use Rattle.device.specs.declared.Device.{Device}
 use Rattle.sdo.specs.declared.Answer.{Answer}
-use Rattle.rainsheave.specs.Calls.{sdoAnswer, sdoRoom, controlAnswer, faultAnswer, tickAnswer, jumpAnswer, queryAnswer}
+use Rattle.rainsheave.specs.Calls.{sdoAnswer, sdoSettled, sdoRoom, controlAnswer, faultAnswer, tickAnswer, jumpAnswer, queryAnswer}
 use Rattle.rainsheave.specs.Calls.{receiveAnswer, sendAnswer, sendRoom, storeAnswer, storeRoom, loadAnswer}
 use Rattle.image.specs.Walk.{walk, partOf, beginOf, codeOf}
+use Rattle.rainsheave.specs.declared.Settled.{Settled}
 use Rattle.rainsheave.specs.declared.Report.{Report}
 use Rattle.rainsheave.specs.declared.Change.{Change}
 use Rattle.rainsheave.specs.declared.Reading.{Reading}
@@ -19,6 +20,11 @@ use Rattle.rainsheave.specs.declared.Sent.{Sent}
 -- `fresh`
 pub record FreshIs (r : Device) : Type 0 where
   pub result : r ≡ freshDevice
+
+-- `settle` of a request, with the room for the reply before and after
+pub record SettleIs (d : Device) (request before after : List ℕ) (r : Settled) : Type 0 where
+  pub result : r ≡ sdoSettled d request (length before)
+  pub bytes : after ≡ sdoRoom d request before
 
 -- `sdo` of a request, with the room for the reply before and after
 pub record SdoIs (d : Device) (request before after : List ℕ) (r : Answer) : Type 0 where

@@ -8,6 +8,7 @@ ghost use Rattle.rainsheave.specs.Calls.{change, pdoSent, numberOfReport
 ghost use Rattle.sdo.specs.Frames.{numberHandedBack};
 ghost use Rattle.rainsheave.specs.Fixed.{
   FreshIs,
+  SettleIs,
   SdoIs,
   ControlIs,
   FaultIs,
@@ -44,6 +45,7 @@ use crate::number::UNSOUND;
 use crate::number::WRONG_LENGTH;
 use device::DISABLED;
 use device::Device;
+use dictionary::Decision;
 pub use mapping::RECEIVABLE;
 pub use mapping::SENDABLE;
 pub use objects::POSITION;
@@ -54,6 +56,12 @@ use sdo::Outcome;
 pub use sdo::number_of as number_of_outcome;
 pub use sdo::read_request;
 pub use sdo::write_request;
+
+// What becomes of an SDO request: it is refused by a number, or decided.
+pub enum Settled {
+    Refused(u8),
+    Decided(Decision),
+}
 
 // What becomes of a call that changes the device.
 pub enum Report {
@@ -68,6 +76,7 @@ pub struct Change {
 }
 
 // The answer of a query: the number handed back, and the value, which is 0 where the number is not.
+#[repr(C)]
 pub struct Reading {
     pub value: i64,
     pub number: u8,
@@ -139,27 +148,37 @@ pub fn fresh() -> Device
     device::fresh()
 }
 
+// What becomes of an SDO request, whose reply goes to the first eight bytes of the room. `sdo` carries it out.
+pub fn settle(device: Device, request: &[u8], reply: &mut [u8]) -> Settled
+    ensures { λ r. ⌜ SettleIs device (now (request .entry)) (now (reply .entry)) (now (reply .exit)) r ⌝ }
+{
+    if !device::is_sound(device) {
+        return Settled::Refused(UNSOUND);
+    }
+    if request.len() != 8 {
+        return Settled::Refused(WRONG_LENGTH);
+    }
+    if reply.len() < 8 {
+        return Settled::Refused(NO_ROOM);
+    }
+    let asked = sdo::request_of(request);
+    if asked.command / 32 == 4 {
+        return Settled::Refused(NO_REPLY_DUE);
+    }
+    let decision = sdo::decision_on(device, asked);
+    let outcome = sdo::outcome_of(decision);
+    sdo::reply(outcome, asked, reply);
+    Settled::Decided(decision)
+}
+
 // An SDO request. The reply goes to the first eight bytes of the room.
 pub fn sdo(device: Device, request: &[u8], reply: &mut [u8]) -> Answer
     ensures { λ r. ⌜ SdoIs device (now (request .entry)) (now (reply .entry)) (now (reply .exit)) r ⌝ }
 {
-    if !device::is_sound(device) {
-        return refused_request(device, UNSOUND);
+    match settle(device, request, reply) {
+        Settled::Refused(number) => refused_request(device, number),
+        Settled::Decided(decision) => sdo::answer_to(device, decision),
     }
-    if request.len() != 8 {
-        return refused_request(device, WRONG_LENGTH);
-    }
-    if reply.len() < 8 {
-        return refused_request(device, NO_ROOM);
-    }
-    let asked = sdo::request_of(request);
-    if asked.command / 32 == 4 {
-        return refused_request(device, NO_REPLY_DUE);
-    }
-    let served = sdo::serve(device, asked);
-    let outcome = served.outcome;
-    sdo::reply(outcome, asked, reply);
-    served
 }
 
 // A control word, as an accepted SDO write of 6040h.

@@ -32,6 +32,10 @@ outcomeOf (Reading size number) = Read size number
 outcomeOf (Write which place x) = Written
 outcomeOf (Aborting code) = Abort code
 
+-- the answer that a decision leads to: its outcome, and the device after it
+abbrev pub answerTo : Decision → Device → Answer
+answerTo decision d = answer (outcomeOf decision) (carriedOut decision d)
+
 -- the answer to a request
 unfoldable pub served : Device → Request → Answer
-served d q = answer (outcomeOf (decisionOn d q)) (carriedOut (decisionOn d q) d)
+served d q = answerTo (decisionOn d q) d

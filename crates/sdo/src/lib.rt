@@ -2,7 +2,8 @@
 ghost use mathlib.Core.Path.{_≡_};
 ghost use Rattle.device.specs.Sound.{Sound};
 ghost use Rattle.sdo.specs.Frames.{requestOf, asksOf, frameOf, readRequest, writeCommand, writeRequest, readReply, isDue, replyOf, repliedIn, numberHandedBack};
-ghost use Rattle.sdo.specs.Serve.{decisionOn, outcomeOf, served};
+ghost use Rattle.dictionary.specs.Asked.{Decided};
+ghost use Rattle.sdo.specs.Serve.{decisionOn, outcomeOf, answerTo};
 ghost use Rattle.sdo.specs.Asked.{EightBytes, Due, ReplyRoom};
 use device::Device;
 use dictionary::Decision;
@@ -110,7 +111,7 @@ fn asks_of(command: u8) -> Asks
 }
 
 // What becomes of a request.
-fn decision_on(device: Device, request: Request) -> Decision
+pub fn decision_on(device: Device, request: Request) -> Decision
     requires { ⌜ Sound device ⌝ }
     ensures { λ r. ⌜ r ≡ decisionOn device request ⌝ }
 {
@@ -123,7 +124,8 @@ fn decision_on(device: Device, request: Request) -> Decision
     }
 }
 
-fn outcome_of(decision: Decision) -> Outcome
+// The outcome of a decision.
+pub fn outcome_of(decision: Decision) -> Outcome
     ensures { λ r. ⌜ r ≡ outcomeOf decision ⌝ }
 {
     match decision {
@@ -137,12 +139,11 @@ fn outcome_of(decision: Decision) -> Outcome
     }
 }
 
-// The answer to a request: decided, then done.
-pub fn serve(device: Device, request: Request) -> Answer
-    requires { ⌜ Sound device ⌝ }
-    ensures { λ r. ⌜ r ≡ served device request ⌝ }
+// The answer that a decision leads to: it is carried out.
+pub fn answer_to(device: Device, decision: Decision) -> Answer
+    requires { ⌜ Decided decision ⌝ }
+    ensures { λ r. ⌜ r ≡ answerTo decision device ⌝ }
 {
-    let decision = decision_on(device, request);
     let outcome = outcome_of(decision);
     let device = dictionary::carry_out(device, decision);
     Answer { device, outcome }

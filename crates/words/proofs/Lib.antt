@@ -1,0 +1,4 @@
+pub mod Numbers
+pub mod Runs
+pub mod Laws
+pub mod Written
