@@ -1,5 +1,6 @@
-/* Rainsheave for C: the set-point path of a proportional valve's electronics. What each call does is laid down in docs/SCOPE.md; its
- * contract stands in crates/c_api/specs/Exported.antt, and is proved.
+/* Rainsheave for C11 and C++: the set-point path of a proportional valve's electronics. What each call does is laid down in
+ * docs/SCOPE.md; its contract stands in crates/c_api/specs/Exported.antt, and is proved. `rt staticlib c_api` writes the library,
+ * target/staticlib/libc_api.a, for x86-64.
  *
  * Numbers. Each call that can refuse hands back a number: RAINSHEAVE_NUMBER_DONE, an SDO abort included, or the reason of a refusal. A
  * call that refuses writes nothing: the device and every byte of a lent room are as they were.
@@ -9,7 +10,8 @@
  * during the call alone. The library allocates nothing and keeps nothing of its own, so calls on different devices may run at the same
  * time; calls on one device may not.
  *
- * One caller per device ticks it every millisecond. 1000h and the other objects that are not the valve's are the caller's to serve. */
+ * The caller ticks a device once a millisecond. Requests for objects that are not the valve's, as those at 1xxxh but 1600h and 1A00h, are
+ * the caller's to serve: here they get the abort NO_OBJECT. */
 #ifndef RAINSHEAVE_H
 #define RAINSHEAVE_H
 
@@ -194,7 +196,9 @@ RAINSHEAVE_STANDS_AT(dither.frequency, RAINSHEAVE_PLACE_DITHER + 2);
 RAINSHEAVE_STANDS_AT(receive.count, RAINSHEAVE_PLACE_RECEIVE);
 RAINSHEAVE_STANDS_AT(receive.entries, RAINSHEAVE_PLACE_RECEIVE + 1);
 RAINSHEAVE_STANDS_AT(transmit, RAINSHEAVE_PLACE_TRANSMIT);
-static_assert(sizeof(rainsheave_reading) == 16 && sizeof(rainsheave_sent) == 16 && sizeof(rainsheave_part) == 24, "the sizes of the answers");
+static_assert(sizeof(rainsheave_reading) == 16 && offsetof(rainsheave_reading, number) == 8, "a reading");
+static_assert(sizeof(rainsheave_sent) == 16 && offsetof(rainsheave_sent, number) == 8, "what was sent");
+static_assert(sizeof(rainsheave_part) == 24 && offsetof(rainsheave_part, length) == 8 && offsetof(rainsheave_part, number) == 16, "a part");
 
 #ifdef __cplusplus
 extern "C" {
@@ -214,8 +218,8 @@ uint8_t rainsheave_sdo(rainsheave_device *device, const uint8_t *request, size_t
  * Nothing is refused. */
 void rainsheave_read_request(uint8_t request[8], uint16_t index, uint8_t sub_index);
 
-/* Puts into eight bytes the request that writes an entry: so many bytes, 1 to 4, of a number; a negative one as two's complement.
- * Nothing is refused; another size than 1 to 3 is taken for 4. */
+/* Puts into eight bytes the request that writes an entry: so many bytes, 1 to 4, of a number, which stands there whole; a negative one as
+ * two's complement. Nothing is refused; another size than 1 to 3 is taken for 4. */
 void rainsheave_write_request(uint8_t request[8], uint16_t index, uint8_t sub_index, uint8_t size, uint32_t number);
 
 /* A control word, as an accepted SDO write of 6040h.

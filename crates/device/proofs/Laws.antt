@@ -2,7 +2,7 @@
 use mathlib.Core.Bool.{true, false, not, _&&_, _||_}
 use mathlib.Core.Logic.{_≢_}
 use mathlib.Core.Path.{_≡_, refl, sym, ap, _∙_}
-use Prim.Native.Nat.{ℕ, _+_, _≤_}
+use Prim.Native.Nat.{ℕ, _+_, _≤_, _<_}
 use native.Mathlib.Omega.{arith}
 use borrow.Author.Tests.{eqb-true, eqb-false, eq-eqb, ne-eqb}
 use lib.Dec.{eqb}
@@ -87,6 +87,15 @@ dither-of-sound s = device-parts s .holds .dither
 
 pub maps-of-sound : {d : Device} → Sound d → soundMaps (d .maps) ≡ true
 maps-of-sound s = device-parts s .holds .mapped
+
+-- a state is below four
+pub state-below : (state : ℕ) → isState state ≡ true → state < 4
+unfolding isState
+state-below state k =
+    by-cases (eqb state 0) (λ e. let h = eqb-true state 0 e in omega (arith, h))
+    (λ e. by-cases (eqb state 1) (λ f. let h = eqb-true state 1 f in omega (arith, h))
+    (λ f. by-cases (eqb state 2) (λ g. let h = eqb-true state 2 g in omega (arith, h))
+    (λ g. let h = eqb-true state 3 (rw (e, f, g) at k) in omega (arith, h))))
 
 -- one of the two blocks is selected, and the other one is at position 0
 selection-parts : (d : Device) → selectionFits d ≡ true → (d .selected ≤ PRESSURE) × (d .other .position ≡ pos 0)

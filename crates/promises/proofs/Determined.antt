@@ -11,6 +11,7 @@ determined =
     record {
       fresh = λ p q. one (p .result) (q .result);
       sdo = λ p q. (one (p .result) (q .result), one (p .bytes) (q .bytes));
+      settle = λ p q. (one (p .result) (q .result), one (p .bytes) (q .bytes));
       control = λ p q. one (p .result) (q .result);
       fault = λ p q. one (p .result) (q .result);
       tick = λ p q. one (p .result) (q .result);

@@ -10,9 +10,9 @@ use Rattle.integers.proofs.Cases.{by-cases}
 use Rattle.integers.proofs.Each.{each-at}
 use Rattle.device.specs.States.{bit, fromDisabled, fromHold, fromActive, fromFault, nextState, driven}
 use Rattle.device.specs.Events.{blockIn, ditherIn, errorIn, entering, controlled, reported, faulted}
-use Rattle.device.specs.Sound.{isState, Sound}
+use Rattle.device.specs.Sound.{Sound}
 use Rattle.device.specs.declared.Device.{Device}
-use Rattle.device.proofs.Laws.{device-parts}
+use Rattle.device.proofs.Laws.{device-parts, state-below}
 use Rattle.rainsheave.specs.Calls.{controlAnswer, faultAnswer}
 use Rattle.promises.specs.Calls.{control, fault, after}
 use Rattle.promises.specs.Demand2.{movedTo, Entered}
@@ -57,14 +57,6 @@ move s b w h k l =
     (each-at 16 (λ w. nextState s b w is movedTo s b w) w
     (each-at 16 (λ b. each 16 (λ w. nextState s b w is movedTo s b w)) b
     (each-at 4 (λ s. each 16 (λ b. each 16 (λ w. nextState s b w is movedTo s b w))) s moves h) k) l)
-
-state-below : (state : ℕ) → isState state ≡ true → state < 4
-unfolding isState
-state-below state k =
-    by-cases (eqb state 0) (λ e. let h = eqb-true state 0 e in omega (arith, h))
-    (λ e. by-cases (eqb state 1) (λ f. let h = eqb-true state 1 f in omega (arith, h))
-    (λ f. by-cases (eqb state 2) (λ g. let h = eqb-true state 2 g in omega (arith, h))
-    (λ g. let h = eqb-true state 3 (rw (e, f, g) at k) in omega (arith, h))))
 
 next-is : {d : Device} → Sound d → (word : ℕ) → nextState (d .state) (d .control) word ≡ movedTo (d .state) (d .control) word
 next-is {d} s word =

@@ -4,17 +4,21 @@ use mathlib.Core.Path.{_≡_}
 use Prim.Native.Nat.{ℕ}
 use Rattle.device.specs.declared.Device.{Device}
 use Rattle.sdo.specs.declared.Answer.{Answer}
+use Rattle.rainsheave.specs.declared.Settled.{Settled}
 use Rattle.rainsheave.specs.declared.Report.{Report}
 use Rattle.rainsheave.specs.declared.Change.{Change}
 use Rattle.rainsheave.specs.declared.Reading.{Reading}
 use Rattle.rainsheave.specs.declared.Sent.{Sent}
-use Rattle.rainsheave.specs.Fixed.{FreshIs, SdoIs, ControlIs, FaultIs, TickIs, JumpIs, ReceiveIs, SendIs, StoreIs, LoadIs, FindIs, FindCodeIs}
+use Rattle.rainsheave.specs.Fixed.{FreshIs, SdoIs, SettleIs, ControlIs, FaultIs, TickIs, JumpIs, ReceiveIs, SendIs, StoreIs, LoadIs, FindIs, FindCodeIs}
 use Rattle.rainsheave.specs.Fixed.{StateIs, StatusIs, ErrorIs, PositionIs, TargetIs, CommandIs, TicksToGoIs}
 
 pub record Determined : Type 1 where
   pub fresh : {r s : Device} → FreshIs r → FreshIs s → r ≡ s
   pub sdo :
       {d : Device} {request before after after′ : List ℕ} {r s : Answer} → SdoIs d request before after r → SdoIs d request before after′ s →
+      (r ≡ s) × (after ≡ after′)
+  pub settle :
+      {d : Device} {request before after after′ : List ℕ} {r s : Settled} → SettleIs d request before after r → SettleIs d request before after′ s →
       (r ≡ s) × (after ≡ after′)
   pub control : {d : Device} {word : ℕ} {r s : Change} → ControlIs d word r → ControlIs d word s → r ≡ s
   pub fault : {d : Device} {code : ℕ} {r s : Change} → FaultIs d code r → FaultIs d code s → r ≡ s
