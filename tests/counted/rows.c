@@ -83,13 +83,16 @@ const struct row rows[] = {
     {"`receive`, one entry, a set point", {ON_ITS_WAY, .entries = {{SET_POINT_ENTRY}}}, .call = CALL_RECEIVE,
      .bytes = {{TWO_BYTES(NEW_VALUE)}}},
     {"`receive`, no entry", {ON_ITS_WAY}, .call = CALL_RECEIVE},
+    {"`receive`, no entry, in DISABLED", {AT_REST}, .call = CALL_RECEIVE},
     {"`send`, two entries", {ON_ITS_WAY, TWO_IN_EACH}, .call = CALL_SEND},
     {"`store`", {ON_ITS_WAY}, .call = CALL_STORE},
     {"`load`", {AT_REST}, .call = CALL_LOAD},
     {"`load`, the pressure block selected", {AT_REST, .selected = PRESSURE_BLOCK}, .call = CALL_LOAD},
     {"`find` of tag 17", {AT_REST}, .call = CALL_FIND, .number = {17}},
     {"`find` of tag 1", {AT_REST}, .call = CALL_FIND, .number = {1}},
+    {"`find` of tag 2", {AT_REST}, .call = CALL_FIND, .number = {2}},
     {"`find_code` of tag 17", {AT_REST}, .call = CALL_FIND_CODE, .number = {17}},
+    {"`find_code` of tag 1", {AT_REST}, .call = CALL_FIND_CODE, .number = {1}},
 
     /* control words and faults */
     {"`control`, ACTIVE stays", {ON_ITS_WAY}, .call = CALL_CONTROL, .number = {TO_ACTIVE}},
