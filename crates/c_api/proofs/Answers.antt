@@ -1,22 +1,22 @@
 -- What the library's answers leave of a device: refused, all of it; done, all but what moves, or all but that and the position block.
 use mathlib.Core.Bool.{Bool, true, false, not}
-use mathlib.Core.List.{List, []}
+use mathlib.Core.List.{List}
 use mathlib.Core.Path.{_≡_, refl, sym, ap, _∙_}
-use Prim.Native.Nat.{ℕ, zero, suc, _+_, _≤_, _<_}
+use Prim.Native.Nat.{ℕ, zero, suc, _≤_}
 use native.Mathlib.Omega.{arith}
 use native.Mathlib.Numerals.{add-one}
-use lib.Dec.{eqb, ltb}
+use lib.Dec.{ltb}
 use lib.IntN.{ℤ, pos}
 use lib.ListN.{length, set, take, drop}
 use lib.Seq.{getD-set-same, set-getD, set-set}
-use Rattle.integers.specs.Words.{if_then_else_, _is_, _among_}
+use Rattle.integers.specs.Words.{_is_, _among_}
 use Rattle.integers.proofs.Cases.{by-cases, by-test}
 use Rattle.objects.specs.Places.{SETTINGS, HOLD-SET-POINT, POSITION}
-use Rattle.block.specs.Block.{setting, withSetting, withSetpoint}
+use Rattle.block.specs.Block.{setting}
 use Rattle.block.specs.Sound.{soundSettings}
 use Rattle.block.specs.declared.Block.{Block}
 use Rattle.block.proofs.Sound.{block-parts}
-use Rattle.mapping.specs.Maps.{RECEIVABLE, counted, entryOf, lengthOf, mapLength}
+use Rattle.mapping.specs.Maps.{RECEIVABLE, entryOf, lengthOf, mapLength}
 use Rattle.mapping.proofs.Sound.{one-of-three, counted-mapped}
 use Rattle.dither.specs.Dither.{atPhase}
 use Rattle.image.specs.Load.{isFull, settingsIn}
@@ -31,7 +31,7 @@ use Rattle.device.proofs.Kept.{same, same-block, tick-keeps, jump-keeps, contro
 use Rattle.pdo.specs.Receive.{acted, received}
 use Rattle.pdo.proofs.Laws.{received-more, acted-sound}
 use Rattle.pdo.proofs.Objects.{word-acted, set-point-acted, hold-set-point-acted}
-use Rattle.rainsheave.specs.Calls.{change, changed, controlAnswer, faultAnswer, tickAnswer, jumpAnswer, receiveAnswer, loaded, loadAnswer}
+use Rattle.rainsheave.specs.Calls.{change, changed, controlAnswer, faultAnswer, tickAnswer, jumpAnswer, receiveAnswer, loadAnswer}
 use Rattle.rainsheave.specs.declared.Report.the-variants.{Done, Refused}
 use Rattle.rainsheave.specs.declared.Change.{Change}
 use Rattle.words.specs.Stored.{withSetPoints}

@@ -1,9 +1,8 @@
 -- From what a call found to what it is fixed to leave: words that hold no device are refused; of others the library's answer is stored.
-use mathlib.Core.Bool.{Bool, true, false, not}
+use mathlib.Core.Bool.{Bool, true, false}
 use mathlib.Core.List.{List}
 use mathlib.Core.Path.{_≡_, refl, sym, ap, _∙_}
 use Prim.Native.Nat.{ℕ}
-use borrow.Author.Tests.{not-false}
 use lib.IntN.{ℤ, pos}
 use lib.ListN.{length}
 use Rattle.objects.specs.Places.{SETTINGS, POSITION}

@@ -1,18 +1,22 @@
 -- Each contract is an equation; the library's answers leave a refused device, whose words are those that hold it.
-use mathlib.Core.Bool.{true, false}
+use mathlib.Core.Bool.{not}
 use mathlib.Core.List.{List}
 use mathlib.Core.Logic.{_≢_}
 use mathlib.Core.Path.{_≡_, refl, sym, ap, _∙_}
 use Prim.Native.Nat.{ℕ}
 use native.Mathlib.Omega.{arith}
+use lib.Dec.{ltb}
 use lib.IntN.{ℤ}
 use lib.ListN.{length}
-use Rattle.integers.proofs.Cases.{by-cases}
+use Rattle.integers.proofs.Cases.{by-cases, by-test}
+use Rattle.mapping.specs.Maps.{mapLength}
+use Rattle.device.specs.Sound.{soundDevice}
 use Rattle.device.specs.declared.Device.{Device}
 use Rattle.sdo.specs.Frames.{numberHandedBack}
 use Rattle.sdo.specs.declared.Outcome.{Outcome}
 use Rattle.sdo.specs.declared.Outcome.the-variants.{Read, Written, Abort, Refused as Refuse}
-use Rattle.rainsheave.specs.Calls.{numberOfReport, sdoAnswer, sdoRoom}
+use Rattle.rainsheave.specs.Calls.{numberOfReport, sdoAnswer, sendAnswer, sendRoomBy, sendRoom, storeAnswer, roomBy, storeRoom}
+use Rattle.rainsheave.specs.declared.Sent.{Sent as LibrarySent}
 use Rattle.rainsheave.specs.declared.Report.{Report}
 use Rattle.rainsheave.specs.declared.Report.the-variants.{Done, Refused}
 use Rattle.rainsheave.specs.declared.Change.{Change}
@@ -21,7 +25,8 @@ use Rattle.words.specs.Words.{WORDS, wordsOf, deviceIn, holdDevice}
 use Rattle.words.proofs.Laws.{held-words}
 use Rattle.words.proofs.Back.{device-back}
 use Rattle.c_api.specs.Asked.{Left}
-use Rattle.c_api.specs.Exported.{ChangeIs, SdoIs}
+use Rattle.c_api.specs.Exported.{SdoIs, SendIs, StoreIs}
+use Rattle.c_api.specs.declared.Sent.{Sent}
 use Rattle.c_api.specs.Promised.{Determined, Unchanged, Refusing, Promised}
 use Rattle.c_api.proofs.Answers.{control-moves, fault-moves, tick-moves, jump-moves, receive-receives, load-loads}
 
@@ -76,6 +81,42 @@ sdo-refused {request} {before} {after} {room} {left} l c h =
     (c .words ∙ rw t (ap wordsOf (sdo-unchanged d request (length room) (e .1)) ∙ held-words (record { held = t }) l), c .bytes ∙ rw t (refusal-writes-nothing d request room (numberHandedBack o) (e .0))))
     (λ t. (c .words ∙ rw t, c .bytes ∙ rw t))
 
+-- a report that is no refusal has 0, and a refusal writes nothing
+sent-nothing : (report : Report) (d : Device) (room : List ℕ) → numberOfReport report ≢ 0 → sendRoomBy report d room ≡ room
+sent-nothing Done d room h = absurd (h refl)
+sent-nothing (Refused number) d room h = refl
+
+stored-nothing : (report : Report) (d : Device) (room : List ℕ) → numberOfReport report ≢ 0 → roomBy report d room ≡ room
+stored-nothing Done d room h = absurd (h refl)
+stored-nothing (Refused number) d room h = refl
+
+none-sent : (d : Device) (room : ℕ) → numberOfReport (sendAnswer d room .report) ≢ 0 → sendAnswer d room .length ≡ 0
+unfolding sendAnswer
+none-sent d room =
+    by-test None (not (soundDevice d)) (λ e h. refl) (λ e. by-test None (ltb room (mapLength (d .maps .transmit))) (λ f h. refl) (λ f h. absurd (h refl)))
+  where
+    None : LibrarySent → Type 0
+    None s = numberOfReport (s .report) ≢ 0 → s .length ≡ 0
+
+send-refused : {words : List ℤ} {room left : List ℕ} {r : Sent} → SendIs words room left r → r .number ≢ 0 → (left ≡ room) × (r .length ≡ 0)
+unfolding sendRoom
+send-refused {words} {room} c h =
+    by-cases (holdDevice words)
+    (λ t.
+    let d = deviceIn words in
+    let refused : numberOfReport (sendAnswer d (length room) .report) ≢ 0 = λ z. h (c .number ∙ rw t z) in
+    (c .bytes ∙ rw t (sent-nothing (sendAnswer d (length room) .report) d room refused), c .sent ∙ rw t (none-sent d (length room) refused)))
+    (λ t. (c .bytes ∙ rw t, c .sent ∙ rw t))
+
+store-refused : {words : List ℤ} {room left : List ℕ} {r : ℕ} → StoreIs words room left r → r ≢ 0 → left ≡ room
+unfolding storeRoom
+store-refused {words} {room} c h =
+    by-cases (holdDevice words)
+    (λ t.
+    let d = deviceIn words in
+    c .bytes ∙ rw t (stored-nothing (storeAnswer d (length room)) d room (λ z. h (c .number ∙ rw t z))))
+    (λ t. c .bytes ∙ rw t)
+
 pub refusing : Refusing
 refusing =
     record {
@@ -86,6 +127,8 @@ refusing =
       receive = λ pdo. unchanged _ (λ d. receive-receives d pdo .left);
       load = λ image. unchanged _ (λ d. load-loads d image .left);
       sdo = sdo-refused;
+      send = send-refused;
+      store = store-refused;
     }
 
 pub promised : Promised

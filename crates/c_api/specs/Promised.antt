@@ -1,5 +1,5 @@
--- What the exported calls promise together: what each leaves is determined, a refusal leaves every word and every byte, and the words of a
--- sound device hold that device, so that the next call finds what the last one left.
+-- What the exported calls promise together: what each leaves is determined (`rainsheave_find_code` has the library's own contract), a refusal
+-- leaves every word and every byte, and the words of a sound device, whose control word and error code have two bytes, hold that device.
 use mathlib.Core.Bool.{true}
 use mathlib.Core.List.{List}
 use mathlib.Core.Logic.{_≢_}
@@ -53,6 +53,8 @@ pub record Refusing : Type 0 where
   pub sdo :
       {request : List ℕ} {before after : List ℤ} {room left : List ℕ} {r : ℕ} →
       length before ≡ WORDS → SdoIs request before after room left r → r ≢ 0 → (after ≡ before) × (left ≡ room)
+  pub send : {words : List ℤ} {room left : List ℕ} {r : Sent} → SendIs words room left r → r .number ≢ 0 → (left ≡ room) × (r .length ≡ 0)
+  pub store : {words : List ℤ} {room left : List ℕ} {r : ℕ} → StoreIs words room left r → r ≢ 0 → left ≡ room
 
 pub record Promised : Type 0 where
   pub determined : Determined

@@ -1,13 +1,12 @@
 -- The words of a sound device hold it: each number fits its word, and each part is read back.
-use mathlib.Core.Bool.{true, _&&_, cond}
-use mathlib.Core.List.{List, [], _∷_, _++_, map, append-assoc, append-nil}
-use mathlib.Core.Path.{_≡_, refl, sym, ap, _∙_}
+use mathlib.Core.Bool.{true, cond}
+use mathlib.Core.List.{List, [], _∷_, _++_, append-assoc, append-nil}
+use mathlib.Core.Path.{_≡_, refl, sym, _∙_}
 use Prim.Native.Nat.{ℕ, zero, suc, _+_, _≤_, _<_}
 use native.Mathlib.Omega.{arith}
 use lib.IntN.{ℤ, pos}
-use lib.ListN.{length, getD, take, drop, length-append, length-map, length-drop}
+use lib.ListN.{length, take, drop, length-append, length-map, length-drop}
 use lib.Seq.{take-suc, take-at, drop-append-add, getD-drop, getD-append-seam, getD-append-add}
-use Rattle.integers.specs.Range.{Within}
 use Rattle.integers.specs.Words.{_is_}
 use Rattle.integers.proofs.Linear.{ints}
 use Rattle.integers.proofs.Each.{and-both}
@@ -23,7 +22,7 @@ use Rattle.dither.proofs.Laws.{dither-parts}
 use Rattle.device.specs.Sound.{Sound}
 use Rattle.device.specs.declared.Device.{Device}
 use Rattle.device.proofs.Laws.{device-parts, state-below, block-of-sound, other-of-sound, dither-of-sound, maps-of-sound, selected-most, receive-parts, transmit-parts}
-use Rattle.words.specs.Words.{SELECTED-BLOCK, OTHER-BLOCK, SELECTED, STATE, CONTROL-WORD, ERROR-CODE, PHASE, RECEIVE, TRANSMIT, ONE-BYTE, TWO-BYTES, FOUR-BYTES, blockWords, mapWords, laterWords, wordsOf, word, run, blockIn, mapIn, ditherIn, deviceIn, isNumber, holdMap, holdDevice}
+use Rattle.words.specs.Words.{SELECTED-BLOCK, OTHER-BLOCK, RECEIVE, TRANSMIT, ONE-BYTE, TWO-BYTES, FOUR-BYTES, blockWords, mapWords, laterWords, wordsOf, run, blockIn, mapIn, ditherIn, deviceIn, holdMap, holdDevice}
 use Rattle.words.proofs.Laws.{Sized, block-long, later-word}
 
 -- ---- lists

@@ -1,12 +1,12 @@
 -- The words of a device with one part changed: what is stored is what the changed device has there, and all else stays.
-use mathlib.Core.List.{List, [], _∷_, _++_, map}
-use mathlib.Core.Path.{_≡_, refl, sym, ap, _∙_}
-use Prim.Native.Nat.{ℕ, zero, suc, _+_, _≤_, _<_}
+use mathlib.Core.List.{List, [], _∷_, _++_}
+use mathlib.Core.Path.{_≡_, refl, ap, _∙_}
+use Prim.Native.Nat.{ℕ, zero, suc, _+_, _≤_}
 use native.Mathlib.Nat.{zero-add, suc-add}
 use native.Mathlib.Omega.{arith}
 use lib.IntN.{ℤ, pos}
-use lib.ListN.{length, getD, set, take, drop, length-append, length-map}
-use lib.Seq.{take-suc, take-all, sets, sets-eq, drop-at, set-append-left, getD-append-add}
+use lib.ListN.{length, set, take, length-append}
+use lib.Seq.{take-suc, take-all, sets, sets-eq, drop-at, getD-append-add}
 use Rattle.integers.specs.Words.{if_then_else_, _is_}
 use Rattle.integers.proofs.Cases.{by-cases, by-test}
 use Rattle.objects.specs.Places.{SETTINGS, POSITION}

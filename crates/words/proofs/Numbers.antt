@@ -1,5 +1,4 @@
 -- Words that are numbers from zero up, and that words which hold a device hold its numbers.
-use mathlib.Core.Bool.{true}
 use mathlib.Core.List.{List}
 use mathlib.Core.Path.{_≡_}
 use Prim.Native.Nat.{ℕ, _+_, _≤_, _<_}
@@ -10,8 +9,8 @@ use lib.Signed.{nonNeg, pos-natAbs}
 use Rattle.integers.proofs.Each.{and-split}
 use Rattle.objects.proofs.Rules.{lies-within}
 use Rattle.dictionary.proofs.Laws.{number-within}
-use Rattle.words.specs.Words.{SELECTED, STATE, CONTROL-WORD, ERROR-CODE, PHASE, RECEIVE, TRANSMIT, WORDS, ONE-BYTE, TWO-BYTES, FOUR-BYTES, word, number, isNumber, holdMap, holdDevice}
-use Rattle.words.specs.Asked.{Number, Mapped, HeldMap, Held}
+use Rattle.words.specs.Words.{SELECTED, STATE, CONTROL-WORD, ERROR-CODE, PHASE, RECEIVE, TRANSMIT, WORDS, ONE-BYTE, TWO-BYTES, FOUR-BYTES, word, number, holdMap, holdDevice}
+use Rattle.words.specs.Asked.{Number, HeldMap, Held}
 
 module _ {words : List ℤ} {k most : ℕ} (n : Number words k (pos most)) where
   pub as-number : T (nonNeg (word words k)) × (number words k ≤ most)

@@ -1,12 +1,12 @@
 -- A run of words: read or stored one after the other.
 use mathlib.Core.List.{List, [], _∷_, _++_}
-use mathlib.Core.Path.{_≡_, refl, sym, _∙_}
+use mathlib.Core.Path.{_≡_}
 use Prim.Native.Nat.{ℕ, suc, _+_, _<_}
 use native.Mathlib.Nat.{add-zero}
 use native.Mathlib.Numerals.{add-one}
 use native.Mathlib.Omega.{arith}
 use lib.IntN.{ℤ, pos}
-use lib.ListN.{length, getD, set, take, length-take}
+use lib.ListN.{length, getD, set, take}
 use lib.Seq.{sets, take-suc, take-suc-set, length-take-le}
 use Rattle.words.specs.Words.{word, run}
 

@@ -1,27 +1,25 @@
 -- An accepted write stores what the words of the written device have: one word, or for a selection the blocks, or for a control word what moves.
-use mathlib.Core.Bool.{true, false}
 use mathlib.Core.List.{List, [], _∷_, _++_, map}
 use mathlib.Core.Path.{_≡_, refl, sym, ap, _∙_}
 use Prim.Native.Nat.{ℕ, zero, suc, _+_, _-_, _≤_, _<_}
 use native.Mathlib.Nat.{add-zero}
 use native.Mathlib.Omega.{arith}
 use borrow.Author.Tests.{lt-ltb, le-ltb, eqb-true, eqb-false, ne-eqb}
-use lib.Dec.{eqb, lit<}
+use lib.Dec.{lit<}
 use lib.IntN.{ℤ, pos, natAbs}
 use lib.ListN.{length, set, length-set, length-map}
 use lib.Seq.{set-append-left, set-at}
-use Rattle.integers.specs.Words.{if_then_else_, _is_, _=?_}
+use Rattle.integers.specs.Words.{if_then_else_, _is_}
 use Rattle.integers.proofs.Cases.{by-cases}
-use Rattle.objects.specs.Places.{SETTINGS, HOLD-SET-POINT, POSITION, DITHER-TYPE, DITHER-AMPLITUDE, DITHER-FREQUENCY, RECEIVE-MAP, TRANSMIT-MAP, SET-POINT, SELECTION, WRITABLE}
+use Rattle.objects.specs.Places.{SETTINGS, HOLD-SET-POINT, POSITION, DITHER-TYPE, RECEIVE-MAP, TRANSMIT-MAP, SET-POINT, SELECTION}
 use Rattle.objects.specs.Places as Places
-use Rattle.objects.specs.Table.{InRange}
 use Rattle.objects.proofs.Rules.{receive-map, transmit-map}
 use Rattle.block.specs.Block.{setting, withSetting, withSetpoint}
 use Rattle.block.specs.declared.Block.{Block}
 use Rattle.mapping.specs.Maps.{ENTRIES, withAt}
 use Rattle.mapping.specs.declared.Map.{Map}
 use Rattle.dither.specs.Dither as Dithers
-use Rattle.device.specs.Device.{blockOf, withBlock, withOther, withSelected, withDither, withBlockOf, selecting}
+use Rattle.device.specs.Device.{blockOf, withDither, withBlockOf, selecting}
 use Rattle.device.specs.Events.{controlled}
 use Rattle.device.specs.declared.Device.{Device}
 use Rattle.device.proofs.Laws.{with-block-of-selected}
@@ -31,12 +29,12 @@ use Rattle.dictionary.specs.Decide.{carriedOut}
 use Rattle.dictionary.specs.declared.Decision.{Decision}
 use Rattle.dictionary.specs.declared.Decision.the-variants.{Read, Write, Abort}
 use Rattle.dictionary.specs.Values.{receiveWritten, transmitWritten, writtenTo}
-use Rattle.dictionary.proofs.Maps.{OfDither, OfReceive, OfTransmit, one-of-three, sub-most, from-zero}
+use Rattle.dictionary.proofs.Maps.{one-of-three, sub-most, from-zero}
 use Rattle.dictionary.proofs.Written.{to-setting, to-dither, to-receive, to-transmit, to-setpoint, to-selection, to-control, by-target, written-number}
-use Rattle.words.specs.Words.{SELECTED-BLOCK, OTHER-BLOCK, SELECTED, DITHER, RECEIVE, TRANSMIT, WORDS, blockWords, mapWords, laterWords, wordsOf, word, blockIn, deviceIn}
-use Rattle.words.specs.Stored.{setPointsIn, withSetPoints, startOf, blockPut, selectedIn, wordOf, controlledIn, writtenIn, carriedOutIn}
+use Rattle.words.specs.Words.{SELECTED-BLOCK, OTHER-BLOCK, SELECTED, DITHER, RECEIVE, TRANSMIT, WORDS, blockWords, mapWords, laterWords, wordsOf, deviceIn}
+use Rattle.words.specs.Stored.{setPointsIn, withSetPoints, startOf, selectedIn, wordOf, controlledIn, writtenIn, carriedOutIn}
 use Rattle.words.specs.Asked.{Held}
-use Rattle.words.proofs.Laws.{Sized, held-sized, held-words, set-past, block-put, block-long, later-set, selected-word, selected-set, start-is, moved-words, exchanged-words, position-long, replaced-sized}
+use Rattle.words.proofs.Laws.{Sized, held-sized, held-words, set-past, block-long, later-set, selected-word, start-is, moved-words, exchanged-words, position-long, replaced-sized}
 
 -- ---- one word of a block
 

@@ -24,7 +24,7 @@ pub record Number (words : List ℤ) (k : ℕ) (most : ℤ) : Type 0 where
 pub record Settings (from : ℕ) : Type 0 where
   pub below : from + SETTINGS ≤ WORDS
 
--- and for a block
+-- a place up to the other block's, from which there are words for a block
 pub record Blocks (from : ℕ) : Type 0 where
   pub below : from ≤ OTHER-BLOCK
 

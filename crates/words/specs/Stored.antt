@@ -1,4 +1,4 @@
--- What the functions that store into words leave there. Each is shown to be the words of the changed device.
+-- What the functions that store into words leave there: the laws show each to be the words of the changed device.
 use mathlib.Core.List.{List}
 use Prim.Native.Nat.{ℕ, _+_, _-_}
 use lib.IntN.{ℤ, pos, natAbs}
@@ -50,7 +50,8 @@ selectedIn which words =
     if word words SELECTED =? pos which then words
     else set (blockPut OTHER-BLOCK (blockIn words SELECTED-BLOCK) (blockPut SELECTED-BLOCK (blockIn words OTHER-BLOCK) words)) SELECTED (pos which)
 
--- the word of a value that has one of its own, in a block that begins there
+-- the word of a value that has one of its own: a setting or the set point in the block that begins there; the dither and the maps stand
+-- in the order of the object table
 unfoldable pub wordOf : ℕ → ℕ → ℕ
 wordOf start place =
     if place below SETTINGS then start + 2 + place

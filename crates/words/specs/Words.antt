@@ -1,4 +1,6 @@
 -- A device as 56 words of 64 bits, in the order of the struct of include/rainsheave.h: the words of a device, and the device that words hold.
+-- What the header calls selected_block, other_block, set_point, control_word, error_code and type is here block, other, setpoint, control,
+-- error and kind.
 use mathlib.Core.Bool.{Bool, _&&_}
 use mathlib.Core.List.{List, [], _∷_, _++_, map}
 use Prim.Native.Nat.{ℕ, zero, suc, _+_}
@@ -69,7 +71,7 @@ wordsOf d = blockWords (d .block) ++ (blockWords (d .other) ++ laterWords d)
 
 -- ---- the device that words hold
 
--- the word at a place, and as a number from zero up
+-- the word at a place, and as a number from zero up, which it is where the words hold a device
 abbrev pub word : List ℤ → ℕ → ℤ
 word words k = getD words k (pos 0)
 

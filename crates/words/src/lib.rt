@@ -1,5 +1,5 @@
-// A device as words of 64 bits: whether words hold a device, the device that they hold, the words of a device, and what each change of
-// a device does to its words. Of those only the ones are stored that the change can alter.
+// A device as words of 64 bits: whether words hold a device, the device that they hold, and what each change of a device stores. Only
+// those words are stored that the change can alter.
 ghost use mathlib.Core.Path.{_≡_};
 ghost use mathlib.Core.Bool.{_&&_};
 ghost use lib.IntN.{pos};
@@ -106,7 +106,7 @@ fn of_four(number: u32) -> i64
 
 // ---- reading
 
-// Both hold. None is left out to save time: on the words of a device all are made.
+// Both hold; both have been worked out.
 fn both(a: bool, b: bool) -> bool
     ensures { λ r. ⌜ r ≡ (a && b) ⌝ }
 {

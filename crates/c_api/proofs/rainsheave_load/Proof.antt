@@ -1,5 +1,5 @@
 -- Words that hold no device are refused; of others the answer is stored.
-use mathlib.Core.Path.{_≡_, _∙_}
+use mathlib.Core.Path.{_∙_}
 use borrow.Author.Tests.{not-true, not-false}
 use Rattle.c_api.proofs.Answers.{load-loads}
 use Rattle.c_api.proofs.Calls.{holds, holds-none, held, none-changes, stored-changes, loading}

@@ -1,5 +1,5 @@
 -- Words that hold no device are refused; of others what was settled is done.
-use mathlib.Core.Path.{_≡_, refl, sym, ap, _∙_}
+use mathlib.Core.Path.{sym, _∙_}
 use borrow.Author.Tests.{not-true, not-false}
 use Rattle.rainsheave.proofs.Settling.{refusal-leads, decision-leads}
 use Rattle.words.proofs.Laws.{held-words}

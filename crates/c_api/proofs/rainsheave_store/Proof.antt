@@ -1,5 +1,5 @@
 -- Words that hold no device are refused; of others the report is told, and the room is as the library left it.
-use mathlib.Core.Path.{_≡_, ap, _∙_}
+use mathlib.Core.Path.{ap, _∙_}
 use borrow.Author.Tests.{not-true, not-false}
 use Rattle.rainsheave.specs.Calls.{numberOfReport}
 use Rattle.c_api.proofs.Calls.{holds, holds-none, held}

@@ -1,5 +1,5 @@
 -- The library tells it of the device that the words hold.
-use mathlib.Core.Path.{_≡_, _∙_}
+use mathlib.Core.Path.{_∙_}
 use Rattle.c_api.proofs.Calls.{holds, holds-none, held, told-query, none-query}
 use borrow.Author.Needs.{needs}
 use Rattle.c_api.proofs.rainsheave_ticks_to_go.Statement.{statement}

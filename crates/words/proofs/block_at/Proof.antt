@@ -1,5 +1,4 @@
 -- A word is read as it is.
-use mathlib.Core.Path.{_∙_}
 use lib.IntN.{pos}
 use lib.ListN.{getD}
 use Prim.Native.Nat.{_+_}

@@ -3,8 +3,6 @@ use mathlib.Core.Path.{_≡_, _∙_}
 use borrow.Author.Needs.{needs}
 use mir.Syntax.{w64}
 use mir.Val.{toZ, ofZ}
-use Rattle.integers.proofs.Machine.{ok-fits}
-use Rattle.words.specs.Stored.{carriedOutIn}
 use Rattle.words.proofs.carry_out.Statement.{statement}
 use Rattle.words.proofs.carry_out.Tie as tie
 

@@ -1,5 +1,4 @@
 -- The words that the map has are numbers.
-use mathlib.Core.Path.{_∙_}
 use Rattle.words.specs.Words.{mapIn}
 use Rattle.words.proofs.Numbers.{map-numbers}
 use borrow.Author.Needs.{needs}

@@ -1,5 +1,5 @@
 -- Two fresh blocks in a row of zeros are the words of a fresh device.
-use mathlib.Core.Path.{_≡_, refl, _∙_}
+use mathlib.Core.Path.{_∙_}
 use Rattle.objects.specs.Table.{objects}
 use Rattle.block.specs.Block.{freshBlock}
 use Rattle.mapping.specs.Maps.{freshMap, freshMaps}

@@ -1,10 +1,8 @@
 -- The code makes the choice of the definition; a selection is a byte, and a control word is a word.
-use mathlib.Core.Path.{_≡_, _∙_}
-use Prim.Native.Nat.{_<_}
+use mathlib.Core.Path.{_∙_}
 use native.Mathlib.Omega.{arith}
 use borrow.Author.Tests.{ne-eqb}
 use mir.Facts.{toZ-ofZ}
-use Rattle.objects.specs.Places.{SELECTION}
 use Rattle.dictionary.proofs.Laws.{control-word, selection-byte}
 use Rattle.words.specs.Stored.{writtenIn}
 use borrow.Author.Needs.{needs}
