@@ -1,17 +1,18 @@
-/* Rainsheave for C11 and C++: the set-point path of a proportional valve's electronics. What each call does is laid down in
+/* Rainsheave for C11, and C++11 or later: the set-point path of a proportional valve's electronics. What each call does is laid down in
  * docs/SCOPE.md; its contract stands in crates/c_api/specs/Exported.antt, and is proved. `rt staticlib c_api` writes the library,
- * target/staticlib/libc_api.a, for x86-64.
+ * target/staticlib/libc_api.a, for x86-64. Of the C library it needs memcpy alone.
  *
  * Numbers. Each call that can refuse hands back a number: RAINSHEAVE_NUMBER_DONE, an SDO abort included, or the reason of a refusal. A
  * call that refuses writes nothing: the device and every byte of a lent room are as they were.
  *
- * Pointers and lengths. No pointer is NULL, not even one with the length 0. A length is how many bytes from the pointer on may be read
- * or, of a room, written; no others are touched. What a call may write overlaps with nothing else that it is handed. A pointer is used
- * during the call alone. The library allocates nothing and keeps nothing of its own, so calls on different devices may run at the same
- * time; calls on one device may not.
+ * Pointers and lengths. No pointer is NULL, not even one with the length 0, and one to a device has the alignment of its type. A length is
+ * how many bytes from the pointer on may be read or, of a room, written; no others are touched. What a call may write overlaps with
+ * nothing else that it is handed. A pointer is used during the call alone. The library allocates nothing and keeps nothing of its own, so
+ * calls on different devices may run at the same time; calls on one device may not, an interrupt that calls during a call included. A call
+ * takes a few kilobytes of stack, and uses the registers of SSE2.
  *
  * The caller ticks a device once a millisecond. Requests for objects that are not the valve's, as those at 1xxxh but 1600h and 1A00h, are
- * the caller's to serve: here they get the abort NO_OBJECT. */
+ * the caller's to serve: here they get RAINSHEAVE_ABORT_NO_OBJECT. */
 #ifndef RAINSHEAVE_H
 #define RAINSHEAVE_H
 
@@ -130,7 +131,7 @@ typedef struct rainsheave_block {
     int64_t settings[17];
 } rainsheave_block;
 
-/* A map of process data: how many entries count, and the entries. */
+/* A map of process data: how many entries count, and the entries, each its index, sub-index and length in bits, as 60400010h. */
 typedef struct rainsheave_map {
     int64_t count;
     int64_t entries[4];
@@ -144,7 +145,7 @@ typedef struct rainsheave_dither {
 } rainsheave_dither;
 
 /* A device, which the caller owns. rainsheave_fresh fills it, and the calls below are the way to change it: a device that was changed
- * otherwise may be unsound, which every call finds out, and refuses. */
+ * otherwise may be unsound, which every call on it finds out, and refuses. */
 typedef struct rainsheave_device {
     rainsheave_block selected_block;
     rainsheave_block other_block;
@@ -262,7 +263,7 @@ rainsheave_reading rainsheave_target(const rainsheave_device *device);
  * Refused: UNSOUND. */
 rainsheave_reading rainsheave_command(const rainsheave_device *device);
 
-/* The ticks until the target is met, while nothing is written and no fault comes.
+/* The ticks until the target is met, while nothing is written and no fault comes; 0 in DISABLED and FAULT.
  * Refused: UNSOUND. */
 rainsheave_reading rainsheave_ticks_to_go(const rainsheave_device *device);
 
@@ -282,7 +283,7 @@ uint8_t rainsheave_store(const rainsheave_device *device, uint8_t *room, size_t 
  * Refused: UNSOUND, NOT_DISABLED, NOT_FULL, BAD_VALUE, in this order. */
 uint8_t rainsheave_load(rainsheave_device *device, const uint8_t *image, size_t image_length);
 
-/* Where in an image the value of the first field with a tag stands.
+/* Where in an image the value of the first field with a tag stands; tag 1 is 6314h, and 17 is 6345h.
  * Refused: FIELD_CUT where a field is cut short before it, NOT_FOUND. */
 rainsheave_part rainsheave_find(const uint8_t *image, size_t image_length, uint8_t tag);
 
