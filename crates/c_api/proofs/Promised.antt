@@ -23,11 +23,11 @@ use Rattle.rainsheave.specs.declared.Change.{Change}
 use Rattle.rainsheave.proofs.Promises.{sdo-unchanged, refusal-writes-nothing}
 use Rattle.words.specs.Words.{WORDS, wordsOf, deviceIn, holdDevice}
 use Rattle.words.proofs.Laws.{held-words}
-use Rattle.words.proofs.Back.{device-back}
 use Rattle.c_api.specs.Asked.{Left}
 use Rattle.c_api.specs.Exported.{SdoIs, SendIs, StoreIs}
 use Rattle.c_api.specs.declared.Sent.{Sent}
 use Rattle.c_api.specs.Promised.{Determined, Unchanged, Refusing, Promised}
+use Rattle.c_api.proofs.Lasting.{lasting}
 use Rattle.c_api.proofs.Answers.{control-moves, fault-moves, tick-moves, jump-moves, receive-receives, load-loads}
 
 -- two things that are equal to a third
@@ -132,4 +132,4 @@ refusing =
     }
 
 pub promised : Promised
-promised = record { determined = determined; refusing = refusing; held = λ s c e. device-back s c e }
+promised = record { determined = determined; refusing = refusing; lasting = lasting }

@@ -1,5 +1,6 @@
 -- What the exported calls promise together: what each leaves is determined (`rainsheave_find_code` has the library's own contract), a refusal
--- leaves every word and every byte, and the words of a sound device, whose control word and error code have two bytes, hold that device.
+-- leaves every word and every byte, and from words that hold a sound device each call leads to words that hold one, that of the library's
+-- answer, so that the next call finds what the last one left.
 use mathlib.Core.Bool.{true}
 use mathlib.Core.List.{List}
 use mathlib.Core.Logic.{_≢_}
@@ -7,12 +8,13 @@ use mathlib.Core.Path.{_≡_}
 use Prim.Native.Nat.{ℕ, _≤_}
 use lib.IntN.{ℤ}
 use lib.ListN.{length}
+use Rattle.device.specs.Device.{freshDevice}
 use Rattle.device.specs.Sound.{Sound}
 use Rattle.device.specs.declared.Device.{Device}
-use Rattle.rainsheave.specs.Calls.{controlAnswer, faultAnswer, tickAnswer, jumpAnswer, receiveAnswer, loadAnswer}
+use Rattle.rainsheave.specs.Calls.{sdoAnswer, controlAnswer, faultAnswer, tickAnswer, jumpAnswer, receiveAnswer, loadAnswer}
 use Rattle.rainsheave.specs.declared.Change.{Change}
 use Rattle.rainsheave.specs.declared.Reading.{Reading}
-use Rattle.words.specs.Words.{WORDS, TWO-BYTES, wordsOf, deviceIn, holdDevice}
+use Rattle.words.specs.Words.{WORDS, TWO-BYTES, deviceIn, holdDevice}
 use Rattle.c_api.specs.declared.Sent.{Sent}
 use Rattle.c_api.specs.declared.Part.{Part}
 use Rattle.c_api.specs.Exported.{FreshIs, ChangeIs, SdoIs, ReadRequestIs, WriteRequestIs, QueryIs, SendIs, StoreIs, FindIs}
@@ -56,8 +58,29 @@ pub record Refusing : Type 0 where
   pub send : {words : List ℤ} {room left : List ℕ} {r : Sent} → SendIs words room left r → r .number ≢ 0 → (left ≡ room) × (r .length ≡ 0)
   pub store : {words : List ℤ} {room left : List ℕ} {r : ℕ} → StoreIs words room left r → r ≢ 0 → left ≡ room
 
+-- the words hold this device, which is sound
+pub record Left (words : List ℤ) (d : Device) : Type 0 where
+  pub holds : holdDevice words ≡ true
+  pub device : deviceIn words ≡ d
+  pub sound : Sound d
+
+-- from words that hold a sound device to words that hold that of the answer
+abbrev pub Leads : (Device → Change) → Type 0
+Leads answer = (before after : List ℤ) (r : ℕ) (d : Device) → Left before d → ChangeIs answer before after r → Left after (answer d .device)
+
+pub record Lasting : Type 0 where
+  pub fresh : {after : List ℤ} → FreshIs after → Left after freshDevice
+  pub control : (word : ℕ) → word ≤ TWO-BYTES → Leads (λ d. controlAnswer d word)
+  pub fault : (code : ℕ) → code ≤ TWO-BYTES → Leads (λ d. faultAnswer d code)
+  pub tick : Leads tickAnswer
+  pub jump : (n : ℕ) → Leads (λ d. jumpAnswer d n)
+  pub receive : (pdo : List ℕ) → Leads (λ d. receiveAnswer d pdo)
+  pub load : (image : List ℕ) → Leads (λ d. loadAnswer d image)
+  pub sdo :
+      {request : List ℕ} {before after : List ℤ} {room left : List ℕ} {r : ℕ} (d : Device) →
+      Left before d → SdoIs request before after room left r → Left after (sdoAnswer d request (length room) .device)
+
 pub record Promised : Type 0 where
   pub determined : Determined
   pub refusing : Refusing
-  pub held :
-      {d : Device} → Sound d → d .control ≤ TWO-BYTES → d .error ≤ TWO-BYTES → (holdDevice (wordsOf d) ≡ true) × (deviceIn (wordsOf d) ≡ d)
+  pub lasting : Lasting
