@@ -42,7 +42,7 @@ use Rattle.words.specs.Asked.{Held}
 use Rattle.words.proofs.Numbers.{as-number, device-numbers}
 use Rattle.words.proofs.Back.{device-back}
 use Rattle.c_api.specs.Exported.{SdoIs}
-use Rattle.c_api.specs.Promised.{Left, Leads, Lasting}
+use Rattle.c_api.specs.Promised.{HoldSound, Leads, Lasting}
 
 -- control word and error code of two bytes
 record Small (d : Device) : Type 0 where
@@ -124,7 +124,7 @@ received-small {d} s bytes (suc n) h m =
 
 -- ---- so the words that are left hold the answer's device
 
-lasts : {after : List ℤ} (e : Device) → after ≡ wordsOf e → Sound e → Small e → Left after e
+lasts : {after : List ℤ} (e : Device) → after ≡ wordsOf e → Sound e → Small e → HoldSound after e
 lasts e h s m = let b = device-back s (m .control) (m .error) in rw h (record { holds = b .0; device = b .1; sound = s })
 
 module _ (answer : Device → Change) where
@@ -135,7 +135,7 @@ module _ (answer : Device → Change) where
       let k = keeps d (l .sound) m in
       lasts (answer d .device) (c .words ∙ rw (l .holds, e)) (k .0) (k .1)
 
-sdo-lasts : {request : List ℕ} {before after : List ℤ} {room left : List ℕ} {r : ℕ} (d : Device) → Left before d → SdoIs request before after room left r → Left after (sdoAnswer d request (length room) .device)
+sdo-lasts : {request : List ℕ} {before after : List ℤ} {room left : List ℕ} {r : ℕ} (d : Device) → HoldSound before d → SdoIs request before after room left r → HoldSound after (sdoAnswer d request (length room) .device)
 sdo-lasts {request} {before} {room = room} d l c =
     let m = rw (l .device) at (held-small before (l .holds)) in
     lasts _ (c .words ∙ rw (l .holds, l .device)) (sdo-sound (l .sound) request (length room)) (sdo-small d request (length room) m)

@@ -59,17 +59,17 @@ pub record Refusing : Type 0 where
   pub store : {words : List ℤ} {room left : List ℕ} {r : ℕ} → StoreIs words room left r → r ≢ 0 → left ≡ room
 
 -- the words hold this device, which is sound
-pub record Left (words : List ℤ) (d : Device) : Type 0 where
+pub record HoldSound (words : List ℤ) (d : Device) : Type 0 where
   pub holds : holdDevice words ≡ true
   pub device : deviceIn words ≡ d
   pub sound : Sound d
 
 -- from words that hold a sound device to words that hold that of the answer
 abbrev pub Leads : (Device → Change) → Type 0
-Leads answer = (before after : List ℤ) (r : ℕ) (d : Device) → Left before d → ChangeIs answer before after r → Left after (answer d .device)
+Leads answer = (before after : List ℤ) (r : ℕ) (d : Device) → HoldSound before d → ChangeIs answer before after r → HoldSound after (answer d .device)
 
 pub record Lasting : Type 0 where
-  pub fresh : {after : List ℤ} → FreshIs after → Left after freshDevice
+  pub fresh : {after : List ℤ} → FreshIs after → HoldSound after freshDevice
   pub control : (word : ℕ) → word ≤ TWO-BYTES → Leads (λ d. controlAnswer d word)
   pub fault : (code : ℕ) → code ≤ TWO-BYTES → Leads (λ d. faultAnswer d code)
   pub tick : Leads tickAnswer
@@ -78,7 +78,7 @@ pub record Lasting : Type 0 where
   pub load : (image : List ℕ) → Leads (λ d. loadAnswer d image)
   pub sdo :
       {request : List ℕ} {before after : List ℤ} {room left : List ℕ} {r : ℕ} (d : Device) →
-      Left before d → SdoIs request before after room left r → Left after (sdoAnswer d request (length room) .device)
+      HoldSound before d → SdoIs request before after room left r → HoldSound after (sdoAnswer d request (length room) .device)
 
 pub record Promised : Type 0 where
   pub determined : Determined
