@@ -13,3 +13,17 @@ pub mod ProcessData
 pub mod Dithering
 pub mod Examples
 pub mod Pressure
+pub mod Lines
+pub mod Plain
+pub mod Completed
+pub mod Asked
+pub mod Ramps
+pub mod Moved
+pub mod Mapped
+pub mod SoundTold
+pub mod Sounded
+pub mod Freshly
+pub mod Imaged
+pub mod Served
+pub mod Cyclic
+pub mod Keeps

@@ -10,3 +10,11 @@ pub mod History
 pub mod Examples
 pub mod Determined
 pub mod Pressure
+pub mod Library
+pub mod Sheet
+pub mod Valve
+pub mod Sdo
+pub mod Image
+pub mod Promises
+pub mod Complete
+pub mod Ours
