@@ -3,7 +3,7 @@ use mathlib.Core.Bool.{Bool, true, false, not, _&&_, _||_}
 use mathlib.Core.List.{List, [], _∷_}
 use mathlib.Core.Path.{_≡_, refl}
 use Prim.Native.Nat.{ℕ, _<_}
-use borrow.Author.Tests.{ltb-true, lt-ltb}
+use borrow.Author.Tests.{eqb-true, ltb-true, lt-ltb}
 use lib.IntN.{ℤ, pos}
 use lib.Signed.{leZ}
 use Rattle.integers.specs.Words.{if_then_else_, minus, _is_, _below_, _=?_, _≤?_}
@@ -83,20 +83,26 @@ abbrev pub fitsLine : (ℕ → ℕ → ℤ) → Line → Bool
 fitsLine value l = not (isHeld l) || (l .kind .low ≤? value (l .index) (l .sub) && value (l .index) (l .sub) ≤? l .kind .high)
 
 -- what a held entry of the sheet has lies in its line's range
-in-range-in :
-    (lines : List Line) (value : ℕ → ℕ → ℤ) (index sub : ℕ) → inRange lines value ≡ true →
-    lineIn lines index sub .index ≡ index → lineIn lines index sub .sub ≡ sub → isHeld (lineIn lines index sub) ≡ true →
+held-in-lines :
+    (lines : List Line) (value : ℕ → ℕ → ℤ) (index sub : ℕ) → inRange lines value ≡ true → isHeld (lineIn lines index sub) ≡ true →
     Within (lineIn lines index sub .kind .low) (lineIn lines index sub .kind .high) (value index sub)
-unfolding inRange
-in-range-in [] value index sub r i s h = clash h refl
-in-range-in (l ∷ lines) value index sub r i s h =
-    let both = and-split (fitsLine value l) (inRange lines value) r in
+unfolding inRange liesIn
+held-in-lines [] value index sub all h = clash h refl
+held-in-lines (l ∷ lines) value index sub all h =
+    let both = and-split (fitsLine value l) (inRange lines value) all in
     by-cases (l .index is index && l .sub is sub)
-    (λ e. rw e (unfold liesIn in lies-within _ _ _ (rw (rw e at h, rw e at i, rw e at s) at (both .0))))
-    (λ e. rw e (in-range-in lines value index sub (both .1) (rw e at i) (rw e at s) (rw e at h)))
+    (λ e.
+    let here = and-split (l .index is index) (l .sub is sub) e in
+    rw (e, ← eqb-true (l .index) index (here .0), ← eqb-true (l .sub) sub (here .1)) (lies-within _ _ _ (rw (rw e at h) at (both .0))))
+    (λ e. rw e (held-in-lines lines value index sub (both .1) (rw e at h)))
+
+pub held-in-range :
+    (value : ℕ → ℕ → ℤ) (index sub : ℕ) → inRange sheet value ≡ true → isHeld (lineAt index sub) ≡ true →
+    Within (lineAt index sub .kind .low) (lineAt index sub .kind .high) (value index sub)
+held-in-range = held-in-lines sheet
 
 pub in-range :
     (value : ℕ → ℕ → ℤ) (index sub : ℕ) → inRange sheet value ≡ true →
     lineAt index sub .index ≡ index → lineAt index sub .sub ≡ sub → isHeld (lineAt index sub) ≡ true →
     Within (lineAt index sub .kind .low) (lineAt index sub .kind .high) (value index sub)
-in-range = in-range-in sheet
+in-range value index sub all i s h = held-in-range value index sub all h

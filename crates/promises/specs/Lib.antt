@@ -1,15 +1,3 @@
-pub mod Calls
-pub mod Names
-pub mod Demand1
-pub mod Demand2
-pub mod Demand3
-pub mod WriteLength
-pub mod ProcessData
-pub mod Dithering
-pub mod History
-pub mod Examples
-pub mod Determined
-pub mod Pressure
 pub mod Library
 pub mod Sheet
 pub mod Valve
@@ -17,4 +5,6 @@ pub mod Sdo
 pub mod Image
 pub mod Promises
 pub mod Complete
-pub mod Ours
+pub mod Demands
+pub mod Histories
+pub mod Examples

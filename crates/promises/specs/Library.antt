@@ -6,8 +6,7 @@ use Prim.Native.Nat.{ℕ}
 use lib.IntN.{ℤ}
 use Rattle.integers.specs.Words.{if_then_else_}
 
--- ---- what is told of a state
-
+-- what is told of a state
 pub record Told : Type 0 where
   -- 0 DISABLED, 1 HOLD, 2 ACTIVE, 3 FAULT
   pub state : ℕ
@@ -52,8 +51,6 @@ holding selected value t =
       phase = t .phase;
       value = value;
     }
-
--- ---- calls
 
 -- what can be asked
 pub data Query : Type 0 where
@@ -107,8 +104,7 @@ abbrev pub first : List Refusal → ℕ
 first [] = 0
 first (r ∷ rest) = if r .holds then r .number else first rest
 
--- ---- a library
-
+-- a library: its states, a fresh one, what it answers to each call, and what is told of a state
 pub record Library : Type 1 where
   pub State : Type 0
   pub fresh : State

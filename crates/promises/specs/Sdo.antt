@@ -9,8 +9,6 @@ use Rattle.promises.specs.Library.{Told, holding, Refusal, _when_, first
 use Rattle.promises.specs.Sheet.{Kind, Line, lineAt, hasEntry, isReadOnly, isHeld}
 use Rattle.promises.specs.Valve.{controlled, status, command}
 
--- ==== SDO
-
 -- the number that the bytes of a type have for a value: below zero the top bit is set
 unfoldable pub numberFor : Kind → ℤ → ℕ
 numberFor kind x = if x <? pos 0 then 256 ^ (kind .bytes) - natAbs x else natAbs x
@@ -39,11 +37,7 @@ numberAt t index sub = numberFor (lineAt index sub .kind) (valueAt t (lineAt ind
 
 -- 2Fh, 2Bh, 27h, 23h write 1, 2, 3, 4 bytes
 unfoldable pub sentBy : ℕ → ℕ
-sentBy command =
-    if command is 0x2F then 1
-    else if command is 0x2B then 2
-    else if command is 0x27 then 3
-    else 4
+sentBy command = if command is 0x2F then 1 else if command is 0x2B then 2 else if command is 0x27 then 3 else 4
 
 -- upper limit below lower after this write: 6321h stands after 6320h, and 63A1h after 63A0h
 unfoldable pub crosses : Told → ℕ → ℤ → Bool
@@ -52,8 +46,7 @@ crosses t index x =
     else if index among 0x6321 ∷ 0x63A1 ∷ [] then t .value (index - 1) 1 <? x
     else false
 
--- wish 2: 6040h, 6300h and 6314h may be received by 1600h; 6041h, 604Eh and 6310h may be sent by 1A00h; each entry is
--- made of index, sub-index and length in bits
+-- wish 2: what 1600h may receive and 1A00h may send; an entry is index, sub-index and length in bits
 abbrev pub mappable : ℕ → List ℕ
 mappable map =
     if map is 0x1600 then 0x60400010 ∷ 0x63000110 ∷ 0x63140110 ∷ []
@@ -63,8 +56,7 @@ mappable map =
 abbrev pub mapped : Told → ℕ → ℕ → ℕ
 mapped t map sub = natAbs (t .value map sub)
 
--- wish 2, after place 8: an entry while sub 0 isn't 0; a sub 0 above 4; an entry that sub 0 would count, or a nonzero
--- one, that may not be mapped
+-- wish 2: an entry while sub 0 isn't 0; a sub 0 above 4; an entry that it would count, or a nonzero one, not mappable
 unfoldable pub mapAborts : Told → ℕ → ℕ → ℕ → List Refusal
 mapAborts t map sub n =
     0x08000022 when (not (sub is 0) && not (mapped t map 0 is 0))

@@ -115,7 +115,7 @@ sheet =
 
 -- the line of an entry; where there is none, one of no bytes
 abbrev pub lineIn : List Line → ℕ → ℕ → Line
-lineIn [] index sub = line index sub (unsigned 0) (pos 0) never
+lineIn [] index sub = line 0 0 (unsigned 0) (pos 0) never
 lineIn (l ∷ lines) index sub = if l .index is index && l .sub is sub then l else lineIn lines index sub
 
 abbrev pub lineAt : ℕ → ℕ → Line

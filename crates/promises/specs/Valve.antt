@@ -52,10 +52,7 @@ selected t index sub = t .value (index + 0x80 * t .selected) sub
 
 -- x, or the limit that it lies beyond
 unfoldable pub clamp : ℤ → ℤ → ℤ → ℤ
-clamp lower upper x =
-    if x <? lower then lower
-    else if upper <? x then upper
-    else x
+clamp lower upper x = if x <? lower then lower else if upper <? x then upper else x
 
 -- the target in ir: both corrections are added as whole numbers, once each
 unfoldable pub target : Told → ℤ
@@ -100,8 +97,7 @@ stepOf time = 1073741824 / max (natAbs time) 1
 unfoldable pub opposite : ℤ → ℤ → Bool
 opposite a b = (a <? pos 0 && pos 0 <? b) || (b <? pos 0 && pos 0 <? a)
 
--- on the far side of zero from the target, or farther out, p decelerates on its own side; otherwise it accelerates on
--- the target's side
+-- beyond zero from the target, or farther out, p decelerates on its own side; else it accelerates on the target's
 unfoldable pub stepFrom : Told → ℤ → ℕ
 stepFrom t p =
     let goal = targetPosition t in

@@ -1,1 +1,1 @@
-// What the library promises of its calls: statements in specs/ and theorems in proofs/, and no code.
+// What is promised of any library of this valve: rules and statements in specs/, theorems in proofs/, and no code.

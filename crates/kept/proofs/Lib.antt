@@ -1,0 +1,14 @@
+pub mod Determined
+pub mod Lines
+pub mod Plain
+pub mod Asked
+pub mod Moved
+pub mod Mapped
+pub mod Sounded
+pub mod Freshly
+pub mod Imaged
+pub mod Served
+pub mod Cyclic
+pub mod Keeps
+pub mod Contracted
+pub mod KeepsInC

@@ -1,0 +1,4 @@
+pub mod Determined
+pub mod Ours
+pub mod Contracted
+pub mod OursInC
