@@ -29,7 +29,7 @@ use Rattle.dictionary.specs.Named.{Named, value, byte, nothing, named}
 use Rattle.dictionary.specs.Values.{valueAt}
 use Rattle.dictionary.proofs.Written.{by-target, value-of-setting}
 use Rattle.dictionary.proofs.Maps.{value-of-dither, value-of-receive, value-of-transmit}
-use Rattle.promises.specs.Library.{Told, moved}
+use Rattle.promises.specs.Library.{Told, moved, holding}
 use Rattle.promises.specs.Valve.{movedTo, entered, controlled, faulted}
 use Rattle.promises.specs.Valve as Valve
 use Rattle.kept.specs.Ours.{heldAt, toldOf}
@@ -84,7 +84,7 @@ module _ (d : Device) (p : ℤ) (state control error phase : ℕ) where
   pub placed-plain : plainTold (placed d p state control error phase) ≡ moved state control error p phase (plainTold d)
   placed-plain =
       let values : heldBy (placed d p state control error phase) ≡ heldBy d = fun-ext (λ index. fun-ext (λ sub. placed-held (named index sub))) in
-      ap (λ (v : ℕ → ℕ → ℤ). moved state control error p phase (record { state = d .state; control = d .control; error = d .error; selected = d .selected; position = d .block .position; other = d .other .position; phase = d .dither .phase; value = v })) values
+      ap (λ (v : ℕ → ℕ → ℤ). moved state control error p phase (holding (d .selected) v (plainTold d))) values
 
 -- ---- a control word and a fault
 

@@ -25,6 +25,7 @@ use Rattle.promises.specs.Sdo.{soundMap}
 use Rattle.promises.specs.Image.{tagged, full, valuesIn, loaded, fits}
 use Rattle.promises.specs.Promises.{sound, refusals, freshTold, does}
 use Rattle.promises.specs.Demands.{isTagged}
+use Rattle.promises.proofs.Sheets.{ofAll, its-index, its-sub}
 use Rattle.promises.proofs.SoundTold.{SoundParts, sound-parts, sound-from-parts, fitsLine}
 use Rattle.promises.proofs.Ramps.{ticks-sound}
 
@@ -59,20 +60,6 @@ quiet-after (r ∷ rest) (suc k) n e =
 
 -- ---- values in the ranges of their lines
 
-abbrev every : (Line → Bool) → List Line → Bool
-every test [] = true
-every test (l ∷ lines) = test l && every test lines
-
--- the line of an entry has its index and sub-index
-pub line-is :
-    (lines : List Line) (index sub : ℕ) → not (lineIn lines index sub .kind .bytes is 0) ≡ true →
-    (lineIn lines index sub .index ≡ index) × (lineIn lines index sub .sub ≡ sub)
-line-is [] index sub h = clash h refl
-line-is (l ∷ lines) index sub h =
-    by-cases (l .index is index && l .sub is sub)
-    (λ e. let both = and-split (l .index is index) (l .sub is sub) e in rw e (eqb-true (l .index) index (both .0), eqb-true (l .sub) sub (both .1)))
-    (λ e. rw e (line-is lines index sub (rw e at h)))
-
 -- a value lies in the range of an entry's line
 abbrev pub fitsAt : ℕ → ℕ → ℤ → Bool
 fitsAt index sub x = let kind = lineAt index sub .kind in kind .low ≤? x && x ≤? kind .high
@@ -81,7 +68,7 @@ fitsAt index sub x = let kind = lineAt index sub .kind in kind .low ≤? x && x 
 abbrev isOwn : Line → Bool
 isOwn l = let kind = lineAt (l .index) (l .sub) .kind in kind .low =? l .kind .low && kind .high =? l .kind .high
 
-sheet-own : every isOwn sheet ≡ true
+sheet-own : ofAll isOwn sheet ≡ true
 unfolding sheet
 sheet-own = refl
 
@@ -104,11 +91,11 @@ module _ (v w : ℕ → ℕ → ℤ) (changed : ℕ → ℕ → Bool) (new : (i 
       (λ c. by-cases (isHeld l) (λ k. rw (k, ← own-low l o, ← own-high l o) (new (l .index) (l .sub) c)) (λ k. rw k))
       (λ c. rw (old (l .index) (l .sub) c) h)
 
-  ranged-from : (lines : List Line) → every isOwn lines ≡ true → inRange lines w ≡ true → inRange lines v ≡ true
+  ranged-from : (lines : List Line) → ofAll isOwn lines ≡ true → inRange lines w ≡ true → inRange lines v ≡ true
   unfolding inRange
   ranged-from [] o r = refl
   ranged-from (l ∷ lines) o r =
-      let own = and-split (isOwn l) (every isOwn lines) o in
+      let own = and-split (isOwn l) (ofAll isOwn lines) o in
       let both = and-split (fitsLine w l) (inRange lines w) r in
       and-both (line-ranged l (own .0) (both .0)) (ranged-from lines (own .1) (both .1))
 
@@ -316,9 +303,9 @@ passed t command index sub n r e =
     let list = ofWrite t command index sub n in
     let none : first list ≡ 0 = sym (ap first (aborts-are t command index sub n r)) ∙ e in
     let after : (k : ℕ) → Quiet (drop k list) = λ k. quiet-after list k (write-numbered t command index sub n) none in
-    let at = line-is sheet index sub (not-false (hasEntry index sub) (after 2 .head)) in
-    let i : l .index ≡ index = at .0 in
-    let j : l .sub ≡ sub = at .1 in
+    let has = not-false (hasEntry index sub) (after 2 .head) in
+    let i : l .index ≡ index = its-index index sub has in
+    let j : l .sub ≡ sub = its-sub index sub has in
     let high : ltZ (l .kind .high) x ≡ false = after 7 .head in
     let low : ltZ x (l .kind .low) ≡ false = after 8 .head in
     let from : leZ (l .kind .low) x ≡ true = omega (arith, ints) in
@@ -393,17 +380,17 @@ received-lasts (e ∷ entries) pdo t s =
 
 -- ---- a load
 
-tagged-own : every (λ l. isHeld l && isOwn l) tagged ≡ true
+tagged-own : ofAll (λ l. isHeld l && isOwn l) tagged ≡ true
 unfolding tagged sheet
 tagged-own = refl
 
 tagged-fits :
-    (lines : List Line) (v : ℕ → ℕ → ℤ) → every (λ l. isHeld l && isOwn l) lines ≡ true → inRange lines v ≡ true →
+    (lines : List Line) (v : ℕ → ℕ → ℤ) → ofAll (λ l. isHeld l && isOwn l) lines ≡ true → inRange lines v ≡ true →
     (i j : ℕ) → isTagged lines i j ≡ true → fitsAt i j (v i j) ≡ true
 unfolding inRange
 tagged-fits [] v o r i j h = clash h refl
 tagged-fits (l ∷ lines) v o r i j h =
-    let own = and-split (isHeld l && isOwn l) (every (λ l. isHeld l && isOwn l) lines) o in
+    let own = and-split (isHeld l && isOwn l) (ofAll (λ l. isHeld l && isOwn l) lines) o in
     let both = and-split (fitsLine v l) (inRange lines v) r in
     let held = and-split (isHeld l) (isOwn l) (own .0) in
     by-cases (l .index is i && l .sub is j)

@@ -100,9 +100,3 @@ pub held-in-range :
     (value : ℕ → ℕ → ℤ) (index sub : ℕ) → inRange sheet value ≡ true → isHeld (lineAt index sub) ≡ true →
     Within (lineAt index sub .kind .low) (lineAt index sub .kind .high) (value index sub)
 held-in-range = held-in-lines sheet
-
-pub in-range :
-    (value : ℕ → ℕ → ℤ) (index sub : ℕ) → inRange sheet value ≡ true →
-    lineAt index sub .index ≡ index → lineAt index sub .sub ≡ sub → isHeld (lineAt index sub) ≡ true →
-    Within (lineAt index sub .kind .low) (lineAt index sub .kind .high) (value index sub)
-in-range value index sub all i s h = held-in-range value index sub all h

@@ -23,7 +23,7 @@ use Rattle.promises.specs.Image as Image
 use Rattle.promises.specs.Image.{tagged, fields, image, headed, full, valuesIn, loaded, fits, found, searchFrom}
 use Rattle.promises.specs.Promises.{sound, Promises}
 use Rattle.promises.specs.Demands.{isTagged, settingsOf}
-use Rattle.promises.proofs.SoundTold.{sound-parts, in-range}
+use Rattle.promises.proofs.SoundTold.{sound-parts, held-in-range}
 
 -- ---- sizes
 
@@ -170,7 +170,7 @@ goods t r (l ∷ lines) e own =
     let two = and-split (isHeld l) (spans (l .kind)) (four .1) in
     let same : ownLine l ≡ l = ap (λ x. getD x 0 l) own in
     let range : Within (l .kind .low) (l .kind .high) (t .value (l .index) (l .sub)) =
-    rw same at (in-range (t .value) (l .index) (l .sub) r (ap (λ x. x .index) same) (ap (λ x. x .sub) same) (rw same (two .0))) in (
+    rw same at (held-in-range (t .value) (l .index) (l .sub) r (rw same (two .0))) in (
       record { size = one .0; tags = one .1; range = range; holds = holds (l .kind) _ (two .1) range },
       goods t r lines (all .1) (ap (drop 1) own),
     )

@@ -26,7 +26,7 @@ use Rattle.promises.specs.Sdo.{standsFor, sentBy, crosses, mappable, map
 use Rattle.promises.specs.Sdo.{mapped, counted, received, soundMap}
 use Rattle.promises.specs.Promises.{sound, asked, freshTold, Promises}
 use Rattle.promises.specs.Histories.{calling, writesOf, making, Wishes}
-use Rattle.promises.proofs.SoundTold.{sound-parts, in-range}
+use Rattle.promises.proofs.SoundTold.{sound-parts, held-in-range}
 use Rattle.promises.proofs.Ramps.{ticks-move}
 use Rattle.promises.proofs.Lasting.{map-few, map-stands}
 use Rattle.promises.proofs.Histories.{counted-at, histories}
@@ -237,7 +237,7 @@ module _ (L : Library) (p : Promises L) where
 
     amplitude-range : Within (pos 0) (pos 1024) (L .told s .value 0x6361 1)
     unfolding sheet
-    amplitude-range = in-range (L .told s .value) 0x6361 1 (sound-parts (L .told s) e .ranged) refl refl refl
+    amplitude-range = held-in-range (L .told s .value) 0x6361 1 (sound-parts (L .told s) e .ranged) refl
 
     within-amplitude : Within (negℤ (L .told s .value 0x6361 1)) (L .told s .value 0x6361 1) (dither (L .told s))
     within-amplitude =
