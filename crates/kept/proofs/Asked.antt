@@ -1,11 +1,8 @@
 -- What can be asked of a sound device is what the rules say of what is told: target, status word and command are the same words of the
 -- chain of the selected block.
-use mathlib.Core.Bool.{true, false}
-use mathlib.Core.Path.{_≡_, refl, sym, ap, _∙_}
-use Prim.Native.Nat.{ℕ, _+_, _*_, _≤_}
+use mathlib.Core.Path.{_≡_, refl, ap, _∙_}
+use Prim.Native.Nat.{ℕ, _≤_}
 use native.Mathlib.Omega.{arith}
-use lib.IntN.{ℤ, pos}
-use Rattle.integers.specs.Words.{if_then_else_}
 use Rattle.objects.specs.Places.{DITHER-TYPE, DITHER-AMPLITUDE, DITHER-FREQUENCY, POSITION, PRESSURE}
 use Rattle.objects.specs.Table.{objects, rowAt}
 use Rattle.objects.specs.Lookup.{indexOf}
@@ -20,7 +17,6 @@ use Rattle.device.specs.declared.Device.{Device}
 use Rattle.device.proofs.Laws.{selected-most}
 use Rattle.dictionary.specs.Values.{valueAt}
 use Rattle.dictionary.proofs.Laws.{each-object-is-named}
-use Rattle.promises.specs.Library.{Told}
 use Rattle.promises.specs.Valve.{clamp, target, status, dither, whole, command}
 use Rattle.promises.specs.Valve as Valve
 use Rattle.kept.specs.Ours.{toldOf}

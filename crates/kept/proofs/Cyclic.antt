@@ -1,14 +1,14 @@
 -- Process data: each entry that a sound map counts may be mapped, and so has two bytes and a line; a received PDO is its writes one after the
 -- other, and a sent one its reads.
-use mathlib.Core.Bool.{true, false}
+use mathlib.Core.Bool.{true}
 use mathlib.Core.List.{List, [], _∷_, _++_}
-use mathlib.Core.Path.{_≡_, refl, sym, ap, _∙_}
-use Prim.Native.Nat.{ℕ, zero, suc, _+_, _*_, _/_, _%_, _≤_, _<_}
+use mathlib.Core.Path.{_≡_, refl, ap, _∙_}
+use Prim.Native.Nat.{ℕ, zero, suc, _*_, _/_, _%_, _≤_, _<_}
 use native.Mathlib.Omega.{arith}
 use lib.ListN.{length, getD, take, drop}
 use Rattle.integers.specs.Words.{_among_}
 use Rattle.coding.specs.Bytes.{fourBytes}
-use Rattle.mapping.specs.Maps.{RECEIVABLE, SENDABLE, bytesOf, entryOf, lengthOf, mapLength}
+use Rattle.mapping.specs.Maps.{SENDABLE, bytesOf, entryOf, lengthOf, mapLength}
 use Rattle.mapping.specs.Maps as Maps
 use Rattle.mapping.specs.declared.Map.{Map}
 use Rattle.mapping.proofs.Sound.{Parts, one-of-three, received-of-two, sent-of-two, counted-mapped}
@@ -16,11 +16,9 @@ use Rattle.device.specs.Sound.{Sound}
 use Rattle.device.specs.declared.Device.{Device}
 use Rattle.device.proofs.Laws.{receive-parts, transmit-parts}
 use Rattle.pdo.specs.Receive.{acted, received}
-use Rattle.pdo.specs.Send.{numberRead, sentBy, sent, sentIn}
+use Rattle.pdo.specs.Send.{sentBy, sent, sentIn}
 use Rattle.pdo.proofs.Laws.{acted-sound}
-use Rattle.dictionary.specs.Decide.{readDecision}
 use Rattle.rainsheave.proofs.Sound.{transmit-length}
-use Rattle.promises.specs.Library.{Told}
 use Rattle.promises.specs.Sheet.{sheet, hasEntry}
 use Rattle.promises.specs.Sdo.{numberAt, lowFirst, fourFrom, mapped, counted}
 use Rattle.promises.specs.Sdo as Sdo

@@ -19,7 +19,7 @@ use Rattle.device.specs.Device.{freshDevice, blockOf}
 use Rattle.device.proofs.Laws.{fresh-sound}
 use Rattle.dictionary.specs.Named.{value, nothing, named}
 use Rattle.dictionary.specs.Values.{valueAt}
-use Rattle.promises.specs.Sheet.{sheet, lineAt, hasEntry, isHeld}
+use Rattle.promises.specs.Sheet.{lineAt, hasEntry, isHeld}
 use Rattle.promises.specs.Promises.{freshTold}
 use Rattle.promises.proofs.Sheets.{unheld}
 use Rattle.kept.specs.Ours.{toldOf}

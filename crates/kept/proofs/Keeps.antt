@@ -1,40 +1,35 @@
 -- The library keeps the promises. Of each call the conditions are gone through in their order: where one holds, the answer is the refusal by
 -- its number; where none does, the device is sound, and what it answers is what the rules say of what is told.
-use mathlib.Core.Bool.{Bool, true, false, not}
-use mathlib.Core.List.{List, [], _∷_, _++_}
+use mathlib.Core.Bool.{Bool, true}
+use mathlib.Core.List.{List}
 use mathlib.Core.Logic.{_≢_}
 use mathlib.Core.Path.{_≡_, refl, sym, ap, _∙_}
-use Prim.Native.Nat.{ℕ, _+_, _*_, _/_, _%_, _≤_, _<_}
+use Prim.Native.Nat.{ℕ, _*_, _/_, _%_}
 use native.Mathlib.Omega.{arith}
-use borrow.Author.Tests.{eqb-true, eqb-false, ltb-false}
-use lib.IntN.{ℤ, pos}
-use lib.ListN.{length, drop}
-use Rattle.integers.specs.Words.{if_then_else_, _is_, _below_}
-use Rattle.integers.proofs.Cases.{by-cases, clash}
-use Rattle.image.specs.Fields.{IMAGE-LENGTH, storedIn}
-use Rattle.image.specs.Load.{isFull, settingsIn}
+use borrow.Author.Tests.{eqb-false}
+use lib.IntN.{pos}
+use lib.ListN.{length}
+use Rattle.integers.specs.Words.{_is_, _below_}
+use Rattle.integers.proofs.Cases.{by-cases}
+use Rattle.image.specs.Fields.{storedIn}
 use Rattle.image.specs.Walk.{walk, partOf, beginOf, codeOf}
 use Rattle.image.specs.declared.Found.{Found}
 use Rattle.image.specs.declared.Found.the-variants.{Part, Cut, Ended}
-use Rattle.block.specs.Sound.{soundSettings}
-use Rattle.mapping.specs.Maps.{mapLength, counted}
+use Rattle.mapping.specs.Maps.{mapLength}
 use Rattle.device.specs.Sound.{soundDevice, Sound}
 use Rattle.device.specs.declared.Device.{Device}
-use Rattle.device.proofs.Laws.{receive-parts, transmit-parts}
 use Rattle.dictionary.specs.declared.Decision.{Decision}
 use Rattle.dictionary.specs.declared.Decision.the-variants.{Read, Write, Abort}
 use Rattle.sdo.specs.Frames.{requestOf, numberHandedBack, repliedIn}
 use Rattle.sdo.specs.Serve.{decisionOn, outcomeOf, served}
 use Rattle.sdo.specs.declared.Outcome.the-variants.{Refused}
-use Rattle.pdo.specs.Send.{sentIn}
-use Rattle.rainsheave.specs.Calls.{isClientAbort, sdoAnswer, sdoRoom, controlAnswer, faultAnswer, tickAnswer, jumpAnswer, queryAnswer}
+use Rattle.rainsheave.specs.Calls.{sdoAnswer, sdoRoom, controlAnswer, faultAnswer, tickAnswer, jumpAnswer, queryAnswer}
 use Rattle.rainsheave.specs.Calls.{receiveAnswer, sendAnswer, sendRoom, storeAnswer, storeRoom, loadAnswer}
 use Rattle.rainsheave.proofs.Sound.{receive-length, transmit-length}
-use Rattle.promises.specs.Library.{Told, Query, Call, Answer, first, Library, replies}
+use Rattle.promises.specs.Library.{Told, Query, Call, Answer, first}
 use Rattle.promises.specs.Library.{fresh, sdo, control, fault, tick, jump, query, receive, send, store, load, search}
 use Rattle.promises.specs.Library as Asked
 use Rattle.promises.specs.Sdo.{byte, mapped}
-use Rattle.promises.specs.Sdo as Sdo
 use Rattle.promises.specs.Image.{found, full, fits}
 use Rattle.promises.specs.Image as Image
 use Rattle.promises.specs.Promises.{sound, refusals, asked, replied, does, lent, Promises}

@@ -35,7 +35,7 @@ use Rattle.promises.specs.Library.{Call, Answer, first}
 use Rattle.promises.specs.Library as Asked
 use Rattle.promises.specs.Image.{found}
 use Rattle.promises.specs.Promises.{sound, refusals, replied, Promises}
-use Rattle.kept.specs.Ours.{answerOf, toldOf, valueOf, changing, rainsheave}
+use Rattle.kept.specs.Ours.{answerOf, toldOf, valueOf, changing}
 use Rattle.kept.proofs.Sounded.{told-sound}
 use Rattle.kept.proofs.Keeps.{keeps}
 use Rattle.kept.specs.OursInC.{holds, deviceOf, answerInC, inC, Ships, Shipped}

@@ -1,26 +1,24 @@
 -- The maps of a device as they are told: what stands at a sub-index is the number of entries, or an entry. So the entries that a map counts
 -- are the device's, and each may be mapped.
-use mathlib.Core.Bool.{true, false}
+use mathlib.Core.Bool.{true}
 use mathlib.Core.List.{List, [], _∷_}
-use mathlib.Core.Path.{_≡_, refl, sym, ap, _∙_}
-use Prim.Native.Nat.{ℕ, zero, suc, _+_, _*_, _-_, _≤_, _<_}
+use mathlib.Core.Path.{_≡_, refl, ap, _∙_}
+use Prim.Native.Nat.{ℕ, _+_, _-_, _≤_, _<_}
 use native.Mathlib.Omega.{arith}
 use borrow.Author.Tests.{eqb-true, ne-eqb}
-use lib.IntN.{ℤ, pos, natAbs}
+use lib.IntN.{pos, natAbs}
 use lib.ListN.{length, getD, take}
-use Rattle.integers.specs.Words.{if_then_else_, each, _is_, _among_}
+use Rattle.integers.specs.Words.{each, _is_}
 use Rattle.integers.proofs.Each.{each-at}
 use Rattle.objects.specs.Places.{RECEIVE-MAP, TRANSMIT-MAP, SET-POINT, POSITION}
 use Rattle.objects.specs.Table.{objects, rowAt}
 use Rattle.objects.specs.Lookup.{indexOf}
 use Rattle.objects.proofs.Rules.{map-index}
-use Rattle.mapping.specs.Maps.{ENTRIES, RECEIVABLE, SENDABLE, entryOf, standsAt}
+use Rattle.mapping.specs.Maps.{ENTRIES, entryOf, standsAt}
 use Rattle.mapping.specs.Maps as Maps
 use Rattle.mapping.specs.declared.Map.{Map}
-use Rattle.mapping.proofs.Sound.{Parts, counted-mapped}
 use Rattle.device.specs.declared.Device.{Device}
 use Rattle.dictionary.specs.Named.{value, named}
-use Rattle.dictionary.specs.Values.{valueAt}
 use Rattle.dictionary.proofs.Laws.{each-object-is-named}
 use Rattle.dictionary.proofs.Maps.{value-of-receive, value-of-transmit}
 use Rattle.promises.specs.Library.{Told}

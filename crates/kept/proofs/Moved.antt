@@ -1,6 +1,5 @@
 -- What a control word, a fault, a tick and a jump leave a sound device with is what the rules say of what was told: position, state, control
 -- word, error code and phase are the rules', and of all else the same is told.
-use mathlib.Core.Bool.{true, false}
 use mathlib.Core.Logic.{_≢_}
 use mathlib.Core.Path.{_≡_, refl, sym, ap, _∙_, fun-ext}
 use Prim.Native.Nat.{ℕ, zero, suc, _+_, _*_, _/_, _%_, _≤_, _<_}
@@ -29,7 +28,7 @@ use Rattle.dictionary.specs.Named.{Named, value, byte, nothing, named}
 use Rattle.dictionary.specs.Values.{valueAt}
 use Rattle.dictionary.proofs.Written.{by-target, value-of-setting}
 use Rattle.dictionary.proofs.Maps.{value-of-dither, value-of-receive, value-of-transmit}
-use Rattle.promises.specs.Library.{Told, moved, holding}
+use Rattle.promises.specs.Library.{moved, holding}
 use Rattle.promises.specs.Valve.{movedTo, entered, controlled, faulted}
 use Rattle.promises.specs.Valve as Valve
 use Rattle.kept.specs.Ours.{heldAt, toldOf}

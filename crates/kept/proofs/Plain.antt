@@ -1,14 +1,12 @@
 -- What is told of a device whose arrays have their lengths, and the values of its selected block by their indexes in the position block:
 -- each is the value that the index and the sub-index name.
-use mathlib.Core.Bool.{Bool, true, false, _&&_, _||_}
-use mathlib.Core.Path.{_≡_, refl, sym, ap, _∙_}
-use Prim.Native.Nat.{ℕ, _+_, _*_, _≤_, _<_}
+use mathlib.Core.Bool.{true}
+use mathlib.Core.Path.{_≡_, refl, _∙_}
+use Prim.Native.Nat.{ℕ, _≤_, _<_}
 use native.Mathlib.Omega.{arith}
 use borrow.Author.Tests.{lt-ltb}
-use lib.IntN.{ℤ, pos}
-use lib.ListN.{length}
-use Rattle.integers.specs.Words.{if_then_else_, _is_, _below_}
-use Rattle.objects.specs.Places.{SETTINGS, SET-POINT, SELECTION, PRESSURE, ROWS}
+use lib.IntN.{ℤ}
+use Rattle.objects.specs.Places.{SETTINGS, SET-POINT, SELECTION, PRESSURE}
 use Rattle.objects.specs.Table.{objects, rowAt}
 use Rattle.objects.specs.Lookup.{isOfBlock, Object, indexOf}
 use Rattle.block.specs.Block.{setting}
@@ -17,7 +15,7 @@ use Rattle.block.proofs.Sound.{block-parts}
 use Rattle.device.specs.Device.{blockOf}
 use Rattle.device.specs.Sound.{Sound}
 use Rattle.device.specs.declared.Device.{Device}
-use Rattle.device.proofs.Laws.{block-of-sound, other-of-sound, receive-parts, transmit-parts, selected-most, selected-block}
+use Rattle.device.proofs.Laws.{block-of-sound, other-of-sound, receive-parts, transmit-parts, selected-block}
 use Rattle.dictionary.specs.Named.{value, named}
 use Rattle.dictionary.specs.Values.{valueAt}
 use Rattle.dictionary.proofs.Laws.{each-object-is-named}

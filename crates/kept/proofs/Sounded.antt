@@ -1,31 +1,30 @@
 -- A device is sound exactly where what is told of it is: each value lies in its row's range where it lies in its line's, and the other
 -- conditions are the same.
-use mathlib.Core.Bool.{Bool, true, false, not, _&&_, _||_}
+use mathlib.Core.Bool.{true, not, _&&_}
 use mathlib.Core.List.{List, [], _∷_}
 use mathlib.Core.Path.{_≡_, refl, sym, ap, _∙_}
-use Prim.Native.Nat.{ℕ, _+_, _*_, _-_, _≤_, _<_}
+use Prim.Native.Nat.{ℕ, _+_, _*_, _≤_, _<_}
 use native.Mathlib.Omega.{arith}
 use borrow.Author.Tests.{eqb-true, eqb-false, eq-eqb, lt-ltb, le-ltb, ltb-true, ltb-false, not-true}
-use lib.IntN.{ℤ, pos}
+use lib.IntN.{pos}
 use lib.ListN.{length}
 use lib.Signed.{_≤ℤ_}
-use Rattle.integers.specs.Words.{if_then_else_, each, minus, _is_, _below_, _among_, _=?_, _≤?_}
+use Rattle.integers.specs.Words.{if_then_else_, each, minus, _is_, _below_, _among_, _≤?_}
 use Rattle.integers.specs.Range.{Within}
-use Rattle.integers.proofs.Cases.{by-cases, by-less, clash, apart}
+use Rattle.integers.proofs.Cases.{by-cases, clash}
 use Rattle.integers.proofs.Each.{and-split, and-both, each-at, each-all}
 use Rattle.integers.proofs.Linear.{ints}
-use Rattle.integers.proofs.Machine.{=?-yes, =?-refl}
-use Rattle.objects.specs.Places.{SETTINGS, DITHER-TYPE, DITHER-AMPLITUDE, DITHER-FREQUENCY, RECEIVE-MAP, TRANSMIT-MAP, SET-POINT, SELECTION}
+use Rattle.integers.proofs.Machine.{=?-yes}
+use Rattle.objects.specs.Places.{SETTINGS, DITHER-TYPE, DITHER-AMPLITUDE, DITHER-FREQUENCY, SET-POINT, SELECTION}
 use Rattle.objects.specs.Places.{UPPER-LIMIT, LOWER-LIMIT, POSITION, PRESSURE}
 use Rattle.objects.specs.Table.{objects, rowAt, liesIn, InRange}
 use Rattle.objects.specs.Lookup.{Object, indexOf}
 use Rattle.objects.proofs.Rules.{within-lies, receive-map, transmit-map}
 use Rattle.block.specs.Block.{at, setting}
 use Rattle.block.specs.Sound as Blocks
-use Rattle.block.specs.declared.Block.{Block}
-use Rattle.block.proofs.Sound.{BlockParts, block-parts, block-from-parts}
-use Rattle.mapping.specs.Maps.{ENTRIES, RECEIVABLE, SENDABLE, entryOf}
-use Rattle.mapping.specs.Sound.{mayStand, soundMaps}
+use Rattle.block.proofs.Sound.{block-parts, block-from-parts}
+use Rattle.mapping.specs.Maps.{ENTRIES, RECEIVABLE, SENDABLE}
+use Rattle.mapping.specs.Sound.{mayStand}
 use Rattle.mapping.specs.declared.Map.{Map}
 use Rattle.mapping.proofs.Sound.{Parts, map-from-parts, maps-both, receive-small, transmit-small}
 use Rattle.dither.specs.Sound as Dithers
@@ -39,16 +38,16 @@ use Rattle.device.proofs.Laws.{selected-most, other-at-zero, selected-block, ot
 use Rattle.device.proofs.Laws as Devices
 use Rattle.dictionary.specs.Named.{Named, value, byte, nothing, named}
 use Rattle.dictionary.specs.Values.{valueAt}
-use Rattle.dictionary.proofs.Laws.{InTable, named-in-table, setting-within, setpoint-within, each-object-is-named}
+use Rattle.dictionary.proofs.Laws.{setting-within, setpoint-within, each-object-is-named}
 use Rattle.dictionary.proofs.Maps.{one-of-three, dither-place, sub-most, map-within, value-of-dither, value-of-receive, value-of-transmit}
 use Rattle.dictionary.proofs.Written.{by-target, value-of-setting}
 use Rattle.promises.specs.Library.{Told}
-use Rattle.promises.specs.Sheet.{Line, sheet, lineAt, hasEntry, isHeld, inRange}
+use Rattle.promises.specs.Sheet.{Line, sheet, isHeld, inRange}
 use Rattle.promises.specs.Sdo.{mapped, mappable, soundMap}
 use Rattle.promises.specs.Promises.{sound}
-use Rattle.kept.specs.Ours.{heldAt, isWhole, toldOf}
+use Rattle.kept.specs.Ours.{isWhole, toldOf}
 use Rattle.promises.proofs.Sheets.{ofAll}
-use Rattle.kept.proofs.Lines.{agrees, all-agree, Agrees, agreed, is-byte, by-value}
+use Rattle.kept.proofs.Lines.{agrees, all-agree, agreed, is-byte, by-value}
 use Rattle.kept.proofs.Plain.{heldBy, plainTold, plain-told, sound-told, held-told, held-setting, held-set-point, set-point-object, setting-object}
 use Rattle.kept.proofs.Asked.{dither-type, dither-amplitude, dither-frequency}
 use Rattle.kept.proofs.Mapped.{MapTold, receive-told, transmit-told}

@@ -1,8 +1,8 @@
 -- Rainsheave as such a library: its states are devices, and its answers those that its contracts name. What is told of
 -- a device has not to be believed: by `Complete` a library that keeps the promises answers alike whatever it tells.
 use mathlib.Core.Bool.{Bool, _&&_}
-use mathlib.Core.List.{List, []}
-use Prim.Native.Nat.{ℕ, _%_}
+use mathlib.Core.List.{[]}
+use Prim.Native.Nat.{_%_}
 use lib.IntN.{ℤ, pos}
 use lib.ListN.{length}
 use Rattle.integers.specs.Words.{if_then_else_, _is_, _below_}

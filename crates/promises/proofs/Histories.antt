@@ -4,22 +4,21 @@ use mathlib.Core.Bool.{Bool, true, false, not, _&&_, _||_}
 use mathlib.Core.List.{List, [], _∷_, _++_}
 use mathlib.Core.Logic.{_≢_}
 use mathlib.Core.Path.{_≡_, refl, sym, ap, _∙_}
-use Prim.Native.Nat.{ℕ, zero, suc, _+_, _*_, _%_, _/_, _≤_, _<_}
+use Prim.Native.Nat.{ℕ, zero, suc, _+_, _%_, _/_, _<_}
 use native.Mathlib.Omega.{arith}
 use borrow.Author.Tests.{eqb-true, eqb-false, eq-eqb, not-true, not-false}
-use lib.IntN.{ℤ, pos, natAbs}
-use lib.ListN.{length, take, drop, getD, length-take}
+use lib.IntN.{ℤ, natAbs}
+use lib.ListN.{length, drop, getD, length-take}
 use lib.Seq.{getD-take}
-use Rattle.integers.specs.Words.{if_then_else_, each, _is_, _below_}
+use Rattle.integers.specs.Words.{each, _is_}
 use Rattle.integers.proofs.Cases.{by-cases, clash}
 use Rattle.integers.proofs.Each.{and-split, each-at}
-use Rattle.promises.specs.Library.{Told, Refusal, _when_, first, Call, target, Library, end}
+use Rattle.promises.specs.Library.{Told, Refusal, first, Call, target, Library, end}
 use Rattle.promises.specs.Library.{fresh, sdo, control, fault, tick, jump, query, receive, send, store, load, search}
 use Rattle.promises.specs.Valve as Valve
 use Rattle.promises.specs.Valve.{driven, entered, controlled, faulted, ticks}
-use Rattle.promises.specs.Sdo.{aborts, written, served, frame, reply, byte, twoFrom, fourFrom, mapped, counted, received}
-use Rattle.promises.specs.Image as Image
-use Rattle.promises.specs.Promises.{sound, refusals, freshTold, does, replied, Promises}
+use Rattle.promises.specs.Sdo.{aborts, written, served, reply, byte, twoFrom, fourFrom, mapped, counted, received}
+use Rattle.promises.specs.Promises.{sound, refusals, does, replied, Promises}
 use Rattle.promises.specs.Histories.{alters, altersNothing, Histories}
 use Rattle.promises.proofs.Lasting.{fresh-sound, lasts}
 

@@ -9,7 +9,7 @@ use borrow.Author.Tests.{eqb-true, eqb-false, eq-eqb, ne-eqb, ltb-false, le-ltb,
 use lib.IntN.{ℤ, pos, natAbs}
 use lib.ListN.{drop}
 use lib.Signed.{leZ, ltZ}
-use Rattle.integers.specs.Words.{if_then_else_, each, minus, _is_, _below_, _among_, _=?_, _≤?_, _<?_}
+use Rattle.integers.specs.Words.{if_then_else_, each, minus, _is_, _below_, _among_, _=?_, _≤?_}
 use Rattle.integers.specs.Range.{Within}
 use Rattle.integers.proofs.Cases.{by-cases, by-test, by-less, clash}
 use Rattle.integers.proofs.Each.{and-split, and-both, each-at, each-all}
@@ -17,12 +17,11 @@ use Rattle.integers.proofs.Linear.{ints, abs-nat}
 use Rattle.integers.proofs.Machine.{=?-yes}
 use Rattle.promises.specs.Library.{Told, holding, Refusal, _when_, first, Call, fresh, sdo, control, fault, tick, jump, query, receive, send, store, load}
 use Rattle.promises.specs.Library.{search}
-use Rattle.promises.specs.Sheet.{Line, sheet, lineIn, lineAt, hasEntry, isHeld, isReadOnly, inRange}
-use Rattle.promises.specs.Valve as Valve
+use Rattle.promises.specs.Sheet.{Line, sheet, lineAt, hasEntry, isHeld, inRange}
 use Rattle.promises.specs.Valve.{bit, movedTo, driven, entered, controlled, faulted, ticks}
 use Rattle.promises.specs.Sdo.{standsFor, sentBy, crosses, mappable, mapped, mapAborts, writeAborts, aborts, put, written, served, fourFrom, received}
 use Rattle.promises.specs.Sdo.{soundMap}
-use Rattle.promises.specs.Image.{tagged, full, valuesIn, loaded, fits}
+use Rattle.promises.specs.Image.{tagged, valuesIn, loaded, fits}
 use Rattle.promises.specs.Promises.{sound, refusals, freshTold, does}
 use Rattle.promises.specs.Demands.{isTagged}
 use Rattle.promises.proofs.Sheets.{ofAll, its-index, its-sub}

@@ -1,11 +1,10 @@
 -- What is told of something sound, by its parts, both ways; and what its lines say of each value.
-use mathlib.Core.Bool.{Bool, true, false, not, _&&_, _||_}
+use mathlib.Core.Bool.{Bool, true, not, _&&_, _||_}
 use mathlib.Core.List.{List, [], _∷_}
 use mathlib.Core.Path.{_≡_, refl}
 use Prim.Native.Nat.{ℕ, _<_}
 use borrow.Author.Tests.{eqb-true, ltb-true, lt-ltb}
 use lib.IntN.{ℤ, pos}
-use lib.Signed.{leZ}
 use Rattle.integers.specs.Words.{if_then_else_, minus, _is_, _below_, _=?_, _≤?_}
 use Rattle.integers.specs.Range.{Within}
 use Rattle.integers.proofs.Cases.{by-cases, clash}
@@ -13,7 +12,7 @@ use Rattle.integers.proofs.Each.{and-split, and-both}
 use Rattle.objects.specs.Table.{liesIn}
 use Rattle.objects.proofs.Rules.{lies-within, within-lies}
 use Rattle.promises.specs.Library.{Told}
-use Rattle.promises.specs.Sheet.{Line, sheet, lineIn, lineAt, hasEntry, isHeld, inRange}
+use Rattle.promises.specs.Sheet.{Line, sheet, lineIn, lineAt, isHeld, inRange}
 use Rattle.promises.specs.Valve.{driven}
 use Rattle.promises.specs.Sdo.{soundMap}
 use Rattle.promises.specs.Promises.{sound}

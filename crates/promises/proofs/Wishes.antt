@@ -1,31 +1,30 @@
 -- The codes and the writes of a PDO are read off the rules; the phase after n ticks is one sum over 2^32, as what ran over the end before makes no
 -- difference; the height of the triangle is at most 16,384 either way; and the dither's entries are no entry of a block.
-use mathlib.Core.Bool.{Bool, true, false, not, cond, _&&_, _||_}
-use mathlib.Core.List.{List, [], _∷_, _++_, map}
-use mathlib.Core.Logic.{_≢_}
+use mathlib.Core.Bool.{Bool, true, false, _&&_, _||_}
+use mathlib.Core.List.{List, [], _∷_, _++_}
 use mathlib.Core.Path.{_≡_, refl, sym, ap, _∙_}
 use Prim.Native.Nat.{ℕ, zero, suc, _+_, _-_, _*_, _%_, _/_, _^_, _≤_, _<_}
 use native.Mathlib.Nat.{mod-add-mod, mod-eq-of-lt, mul-le-mul-left}
 use native.Mathlib.Omega.{arith}
-use borrow.Author.Tests.{eqb-true, eqb-false, eq-eqb, ne-eqb, ltb-true, ltb-false, lt-ltb, le-ltb, not-true, not-false}
+use borrow.Author.Tests.{eqb-true, eqb-false, eq-eqb, ne-eqb, ltb-true, ltb-false, lt-ltb, le-ltb}
 use lib.Dec.{ltb}
 use lib.IntN.{ℤ, pos, negsuc, negℤ, natAbs, _+ℤ_, _-ℤ_}
-use lib.ListN.{length, take, drop, getD, replicate}
-use lib.Signed.{ltZ, leZ}
-use Rattle.integers.specs.Words.{if_then_else_, each, minus, _over_, _is_, _below_, _among_, _=?_, _<?_}
+use lib.ListN.{length, drop, getD}
+use lib.Signed.{ltZ}
+use Rattle.integers.specs.Words.{minus, _over_, _is_, _below_, _among_, _=?_}
 use Rattle.integers.specs.Range.{Within}
 use Rattle.integers.proofs.Cases.{by-cases, by-test, clash}
 use Rattle.integers.proofs.Each.{and-split, each-all}
 use Rattle.integers.proofs.Linear.{ints, abs-nat, abs-neg, abs-mul, neg-nat, sub-nat, add-nat}
-use Rattle.promises.specs.Library.{Told, moved, holding, Refusal, first, Query, state, status, error, position, target, command, ticksToGo}
-use Rattle.promises.specs.Library.{Call, sdo, jump, query, receive, Reply, Library, end}
+use Rattle.promises.specs.Library.{Told, holding, Refusal, first, state, command}
+use Rattle.promises.specs.Library.{Call, jump, query, receive, Reply, Library, end}
 use Rattle.promises.specs.Sheet.{Line, sheet, lineAt, hasEntry}
 use Rattle.promises.specs.Valve as Valve
-use Rattle.promises.specs.Valve.{driven, selected, clamp, awayTime, towardTime, stepFrom, halts, tick, ticks, height, dither, whole, banded}
-use Rattle.promises.specs.Sdo.{standsFor, sentBy, crosses, mappable, mapAborts, writeAborts, aborts, put, written, served, frame, byte, twoFrom, fourFrom}
+use Rattle.promises.specs.Valve.{driven, selected, clamp, tick, ticks, height, dither, whole, banded}
+use Rattle.promises.specs.Sdo.{standsFor, sentBy, crosses, mappable, mapAborts, writeAborts, aborts, put, written, served, frame, twoFrom, fourFrom}
 use Rattle.promises.specs.Sdo.{mapped, counted, received, soundMap}
-use Rattle.promises.specs.Promises.{sound, asked, freshTold, Promises}
-use Rattle.promises.specs.Histories.{calling, writesOf, making, Wishes}
+use Rattle.promises.specs.Promises.{sound, freshTold, Promises}
+use Rattle.promises.specs.Histories.{calling, writesOf, making, WriteLength, ProcessData, Dithering}
 use Rattle.promises.proofs.SoundTold.{sound-parts, held-in-range}
 use Rattle.promises.proofs.Ramps.{ticks-move}
 use Rattle.promises.proofs.Lasting.{map-few, map-stands}
@@ -109,62 +108,6 @@ clamp-inside x l =
     let under : ltZ x (minus 16384) ≡ false = omega (arith, ints, abs-nat x) in
     let above : ltZ (pos 16384) x ≡ false = omega (arith, ints, abs-nat x) in
     rw (same, under, above)
-
--- ---- what knows nothing of the dither
-
-module _ (t : Told) (kind amplitude frequency : ℤ) (phase : ℕ) where
-  abbrev other : Told
-  other =
-      moved (t .state) (t .control) (t .error) (t .position) phase
-      (holding (t .selected) (put 0x6360 0 kind (put 0x6361 1 amplitude (put 0x6362 1 frequency (t .value)))) t)
-
-  -- none of its entries is one of a block, whichever is selected
-  by-block : (index sub : ℕ) → (index below 0x6360) ≡ true → (0x62E2 below index) ≡ true → selected other index sub ≡ selected t index sub
-  by-block index sub a b =
-      let i = index + 0x80 * t .selected in
-      let h = ltb-true index 0x6360 a in
-      let l = ltb-true 0x62E2 index b in
-      rw (ne-eqb 0x6360 i (λ q. omega arith), ne-eqb 0x6361 i (λ q. omega arith), ne-eqb 0x6362 i (λ q. omega arith))
-
-  target-same : Valve.target other ≡ Valve.target t
-  unfolding Valve.target
-  target-same =
-      rw (
-        by-block 0x6300 1 refl refl,
-        by-block 0x6314 1 refl refl,
-        by-block 0x6321 1 refl refl,
-        by-block 0x6320 1 refl refl,
-        by-block 0x6322 0 refl refl,
-        by-block 0x6323 1 refl refl,
-        by-block 0x6324 1 refl refl,
-      )
-
-  away-same : (z : ℤ) → awayTime other z ≡ awayTime t z
-  unfolding awayTime
-  away-same z = rw (by-block 0x6330 0 refl refl, by-block 0x6331 1 refl refl, by-block 0x6332 1 refl refl, by-block 0x6333 1 refl refl)
-
-  toward-same : (z : ℤ) → towardTime other z ≡ towardTime t z
-  unfolding towardTime
-  toward-same z =
-      rw (by-block 0x6330 0 refl refl, by-block 0x6331 1 refl refl, by-block 0x6334 1 refl refl, by-block 0x6335 1 refl refl, by-block 0x6336 1 refl refl)
-
-  step-same : (z : ℤ) → stepFrom other z ≡ stepFrom t z
-  unfolding stepFrom
-  step-same z = rw (target-same, toward-same z, away-same (Valve.targetPosition t))
-
-  halts-same : (z : ℤ) → halts other z ≡ halts t z
-  unfolding halts
-  halts-same z = rw (target-same, by-block 0x6330 0 refl refl)
-
-  asked-same : (q : Query) → q ≢ command → asked q other ≡ asked q t
-  unfolding Valve.status Valve.ticksToGo
-  asked-same state n = refl
-  asked-same status n = rw target-same
-  asked-same error n = refl
-  asked-same position n = refl
-  asked-same target n = target-same
-  asked-same command n = absurd (n refl)
-  asked-same ticksToGo n = rw (target-same, by-block 0x6330 0 refl refl, halts-same (t .position), step-same (t .position), step-same (pos 0))
 
 -- ---- wish 2: a received PDO
 
@@ -441,16 +384,18 @@ module _ (L : Library) (p : Promises L) where
       let second-made = made-map L p t transmit-map b u (first-made .still) (rw (first-made .others 0x1A00 0 refl, p .fresh)) in
       (ap natAbs (second-made .others 0x1600 sub refl) ∙ made-at L p t receive-map a (L .fresh) first-made sub l, made-at L p t transmit-map b u second-made sub l)
 
-  pub wishes : (s : L .State) → sound (L .told s) ≡ true → Wishes L s
-  wishes s e =
+  pub process-data : (s : L .State) → sound (L .told s) ≡ true → ProcessData L s
+  process-data s e = record { received = received-told L p s e; made = made }
+
+  pub dithering : (s : L .State) → sound (L .told s) ≡ true → Dithering L s
+  dithering s e =
       let t = L .told s in
       record {
-        codes = λ t c index sub n. first-of-codes CODES (aborts t c index sub n) (of-codes t c index sub n);
-        received = received-told L p s e;
-        made = made;
         phase-after = λ k n.
             ap (λ (u : Told). u .phase) (p .done (jump n) s (p .number (jump n) s ∙ rw e) .0) ∙ ticks-phase t k (sound-parts t e .phase) n;
         within-amplitude = within-amplitude L p s e;
         inside-band = inside-band L p s e;
-        unknown = λ q n t kind amplitude frequency phase. asked-same t kind amplitude frequency phase q n;
       }
+
+pub write-length : WriteLength
+write-length = record { codes = λ t c index sub n. first-of-codes CODES (aborts t c index sub n) (of-codes t c index sub n) }

@@ -5,16 +5,16 @@ use mathlib.Core.List.{List, [], _∷_, _++_, map}
 use mathlib.Core.Logic.{_≢_}
 use mathlib.Core.Path.{_≡_}
 use Prim.Native.Nat.{ℕ, _+_, _*_, _/_, _%_, _≤_}
-use lib.IntN.{ℤ, pos, negℤ, natAbs}
+use lib.IntN.{pos, negℤ, natAbs}
 use lib.ListN.{replicate, drop}
 use Rattle.integers.specs.Words.{each, _is_, _among_}
 use Rattle.integers.specs.Range.{Within}
-use Rattle.promises.specs.Library.{Told, moved, holding, Query, target, command, Call, first, Library, end}
+use Rattle.promises.specs.Library.{Told, target, command, Call, first, Library, end}
 use Rattle.promises.specs.Library.{fresh, sdo, control, fault, tick, jump, query, receive, send, store, load}
 use Rattle.promises.specs.Library.{search}
 use Rattle.promises.specs.Valve.{driven, selected, dither, whole}
-use Rattle.promises.specs.Sdo.{aborts, put, frame, byte, twoFrom, mapped, counted, soundMap}
-use Rattle.promises.specs.Promises.{sound, asked}
+use Rattle.promises.specs.Sdo.{aborts, frame, byte, twoFrom, mapped, counted, soundMap}
+use Rattle.promises.specs.Promises.{sound}
 
 -- a call that can change a setting, a set point, the selection, a map or a value of the dither: an acknowledged write
 -- to another object than 6040h, a received PDO with another one, a load, `fresh`
@@ -80,16 +80,18 @@ making t index =
     map (λ k. calling (frame 0x23 index k (mapped t index k))) (1 ∷ 2 ∷ 3 ∷ 4 ∷ [])
     ++ (calling (frame 0x2F index 0 (mapped t index 0)) ∷ [])
 
--- of a state of which something sound is told
-pub record Wishes (L : Library) (s : L .State) : Type 0 where
-  -- wish 1: every abort has one of thirteen codes; 06070010h is none of them
+-- wish 1, the length of a write: every abort has one of thirteen codes, and 06070010h is none of them
+pub record WriteLength : Type 0 where
   pub codes :
       (t : Told) (c index sub n : ℕ) →
       first (aborts t c index sub n) among
       (0 ∷ 0x05040001 ∷ 0x06020000 ∷ 0x06090011 ∷ 0x06010002 ∷ 0x06070012 ∷ 0x06070013 ∷ 0x06090030 ∷ 0x06090031
       ∷ 0x06090032 ∷ 0x06090036 ∷ 0x08000022 ∷ 0x06040042 ∷ 0x06040041 ∷ [])
       ≡ true
-  -- wish 2: a received PDO is its list of SDO writes, one after the other
+
+-- wish 2, process data, of a state of which something sound is told
+pub record ProcessData (L : Library) (s : L .State) : Type 0 where
+  -- a received PDO is its list of SDO writes, one after the other
   pub received :
       (pdo : List ℕ) → L .answer (receive pdo) s .reply .number ≡ 0 →
       L .told (L .answer (receive pdo) s .state) ≡ L .told (end L (writesOf (counted (L .told s) 0x1600) pdo) s)
@@ -98,7 +100,10 @@ pub record Wishes (L : Library) (s : L .State) : Type 0 where
       (t : Told) → soundMap t 0x1600 ≡ true → soundMap t 0x1A00 ≡ true → (sub : ℕ) → sub ≤ 4 →
       let now = L .told (end L (making t 0x1600 ++ making t 0x1A00) (L .fresh)) in
       (mapped now 0x1600 sub ≡ mapped t 0x1600 sub) × (mapped now 0x1A00 sub ≡ mapped t 0x1A00 sub)
-  -- wish 4: in HOLD and ACTIVE the phase after a jump of n, which is that after n ticks
+
+-- wish 4, dither, of a state of which something sound is told
+pub record Dithering (L : Library) (s : L .State) : Type 0 where
+  -- in HOLD and ACTIVE the phase after a jump of n, which is that after n ticks
   pub phase-after :
       driven (L .told s .state) ≡ true → (n : ℕ) →
       L .told (L .answer (jump n) s .state) .phase
@@ -112,9 +117,3 @@ pub record Wishes (L : Library) (s : L .State) : Type 0 where
       driven (t .state) ≡ true → selected t 0x6342 0 ≡ pos 1 →
       Within (negℤ (selected t 0x6345 1)) (selected t 0x6345 1) (whole t) →
       L .answer (query command) s .reply .value ≡ dither t
-  -- no other query knows the dither: neither its values nor its phase
-  pub unknown :
-      (q : Query) → q ≢ command → (t : Told) (kind amplitude frequency : ℤ) (phase : ℕ) →
-      asked q (moved (t .state) (t .control) (t .error) (t .position) phase
-      (holding (t .selected) (put 0x6360 0 kind (put 0x6361 1 amplitude (put 0x6362 1 frequency (t .value)))) t))
-      ≡ asked q t

@@ -12,7 +12,7 @@ use Rattle.promises.specs.Library.{Told, holding, Query, Call, Reply, An
 use Rattle.promises.specs.Library.{fresh, sdo, control, fault, tick, jump, query, receive, send, store, load}
 use Rattle.promises.specs.Library.{search}
 use Rattle.promises.specs.Library as Asked
-use Rattle.promises.specs.Sheet.{Line, sheet, lineAt, isHeld, inRange}
+use Rattle.promises.specs.Sheet.{sheet, lineAt, isHeld, inRange}
 use Rattle.promises.specs.Valve as Valve
 use Rattle.promises.specs.Valve.{driven, controlled, faulted, target, status, ticks, ticksToGo, command}
 use Rattle.promises.specs.Sdo.{served, reply, byte, twoFrom, fourFrom, mapped, counted, received, sent, soundMap}
