@@ -1,3 +1,4 @@
+#![tactic(auto)]
 // A value chain: from the set point by the settings to the target, along the ramp to the position, and on to the command.
 ghost use Rattle.std.specs.Prelude.{◌≡◌, ◌&&◌};
 ghost use Rattle.integers.specs.Words.{◌=?◌, ◌≤?◌};
@@ -20,7 +21,7 @@ use objects::{
 };
 use ramp::{Ramp, Times};
 
-#[derive(Drop)]
+#[derive(Clone, Copy)]
 pub struct Block {
     pub setpoint: i64,
     // in 1/65,536 ir

@@ -1,3 +1,4 @@
+#![tactic(auto)]
 // Rainsheave for C: every public call with C linkage, as include/rainsheave.h declares them. A device is words of 64 bits behind a
 // pointer. Words that hold no device are refused as an unsound device is. Refused, a call stores nothing.
 ghost use Rattle.std.specs.Prelude.{◌≡◌, pos};
@@ -31,7 +32,7 @@ use crate::length::FRAME;
 
 // What was sent: how many bytes were written, which are none beside a refusal.
 #[repr(C)]
-#[derive(Drop)]
+#[derive(Clone, Copy)]
 pub struct Sent {
     pub length: usize,
     pub number: u8,
@@ -39,7 +40,7 @@ pub struct Sent {
 
 // What was found: where in the image, and how many bytes; both are 0 beside a refusal.
 #[repr(C)]
-#[derive(Drop)]
+#[derive(Clone, Copy)]
 pub struct Part {
     pub begin: usize,
     pub length: usize,

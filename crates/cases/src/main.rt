@@ -1,3 +1,4 @@
+#![tactic(auto)]
 // Reads cases from standard input, and prints how many there were and how many of them failed. The work is `judging::run`. A read
 // that fails is told on standard error, and no count is printed then: it would be taken for that of the whole input.
 ghost use Rattle.io.specs.Counts.{IsPrefixLen};
@@ -9,7 +10,7 @@ use libc::{STDERR_FILENO, STDIN_FILENO, STDOUT_FILENO};
 const CHUNK_LENGTH: usize = 65536;
 
 // The tally after a chunk of the input, whether the input goes on, and whether a read failed.
-#[derive(Drop)]
+#[derive(Clone, Copy)]
 struct Chunk {
     tally: Tally,
     goes_on: bool,
@@ -17,7 +18,7 @@ struct Chunk {
 }
 
 // How many bytes of the input stand at the start of a room, and whether the read after them failed.
-#[derive(Drop)]
+#[derive(Clone, Copy)]
 struct Filled {
     n: usize,
     failed: bool,

@@ -1,3 +1,4 @@
+#![tactic(auto)]
 // Values as numbers of 1, 2 or 4 bytes, and numbers as bytes, low first; and back. Bytes into a room.
 ghost use Rattle.std.specs.Prelude.{◌≡◌, length};
 ghost use Rattle.std.proofs.Math.Seq.{paste};

@@ -1,3 +1,4 @@
+#![tactic(auto)]
 // The device: its four states, the control word, faults, ticks and jumps, and what can be asked of it. Of its two blocks these know the
 // selected one alone. It holds the maps of process data, which no event of its own changes, and the dither, whose phase goes on where the
 // valve is driven.
@@ -16,7 +17,7 @@ use dither::Dither;
 use mapping::Maps;
 use objects::{POSITION, PRESSURE};
 
-#[derive(Drop)]
+#[derive(Clone, Copy)]
 pub struct Device {
     // the selected block, which drives the command
     pub block: Block,

@@ -1,3 +1,4 @@
+#![tactic(auto)]
 // The object dictionary: what an index and a sub-index name, what becomes of a read or a write of it, as a decision, and the carrying
 // out of that.
 ghost use Rattle.std.specs.Prelude.{◌≡◌, ◌+◌};
@@ -46,7 +47,7 @@ pub const MAP_TOO_LONG: u32 = 0x06040042;
 pub const NOT_MAPPABLE: u32 = 0x06040041;
 
 // What becomes of a request: so many bytes of a number read, a value to be written to a place of a block, or an abort with its code.
-#[derive(Drop)]
+#[derive(Clone, Copy)]
 pub enum Decision {
     Read { size: u8, number: u32 },
     Write { which: u8, place: usize, value: i64 },

@@ -1,3 +1,4 @@
+#![tactic(auto)]
 // The dither, after wish 4 of document 02: its type, amplitude and frequency, its phase, and the two waves. It belongs to the command,
 // and knows nothing of the block that drives the command.
 ghost use Rattle.std.specs.Prelude.{◌≡◌};
@@ -11,7 +12,7 @@ ghost use Rattle.dither.specs.Asked.{Amplitude};
 
 use objects::{DITHER_AMPLITUDE, DITHER_FREQUENCY, DITHER_TYPE};
 
-#[derive(Drop)]
+#[derive(Clone, Copy)]
 pub struct Dither {
     // 0 off, 1 square, 2 triangle
     pub kind: i64,

@@ -1,3 +1,4 @@
+#![tactic(auto)]
 // A valve from switching on to the reset of its faults: set up by SDO, made ACTIVE and ticked along a ramp of type 2. Each line tells what
 // was done, and what became of it. examples/valve.c is the same program in C.
 use device::Device;
@@ -8,7 +9,7 @@ use sdo::Outcome;
 // ---- what this program names of the device
 
 // Where a value stands (at sub-index 0 of a variable, at 1 of a record), and how many bytes it has.
-#[derive(Drop)]
+#[derive(Clone, Copy)]
 struct Entry(u16, u8, u8);
 
 const STATUS_WORD: Entry = Entry(index::STATUS_WORD, 0, 2);

@@ -1,3 +1,4 @@
+#![tactic(auto)]
 // The stored parameter image: a store, a load, and the search for a tag in any slice.
 ghost use Rattle.std.specs.Prelude.{◌≡◌, ◌+◌};
 ghost use Rattle.std.proofs.Math.Seq.{paste};
@@ -12,7 +13,7 @@ use objects::SETTINGS;
 pub const IMAGE_LENGTH: usize = 97;
 
 // What a walk over the fields meets: the field so tagged, whose value is from..end; a field cut short; the end.
-#[derive(Drop)]
+#[derive(Clone, Copy)]
 pub enum Found {
     Part { from: usize, end: usize },
     Cut,

@@ -90,7 +90,7 @@ pub told :
     {ps : List (ParamKind 0)} {f : (κs : Lfts 0) → Dens κs ps → ℤ} {Γ : Cx} {ar : ArgsT ps Γ.locals} {u : Mo Γ} →
     (c : Called ps (r_s_num w64) (λ κs a z e. z ≡ f κs a) Γ ar u) →
     to_z w64 (of_z w64 c.result) ≡ f c.lifetimes (args_v c.lifetimes ps Γ.locals ar u)
-told c = result_told c.ok c.ensures
+told c = result_told c.type_inv c.ensures
 
 -- `==` as a value
 pub same_told : {w : Width} {a b : ℤ} → SFits w a → SFits w b → eqb (of_z w a) (of_z w b) ≡ (a =? b)

@@ -1,3 +1,4 @@
+#![tactic(auto)]
 // The judging of cases, each a record of 16 bytes: a request and its expected reply. No input is refused.
 ghost use Rattle.std.specs.Prelude.{◌≡◌};
 ghost use Rattle.sdo.specs.Asked.{EightBytes};
@@ -10,7 +11,7 @@ use sdo::Outcome;
 const CASE: usize = 16;
 
 // The device after the cases so far, how many they were, and how many of them failed.
-#[derive(Drop)]
+#[derive(Clone, Copy)]
 pub struct Tally {
     pub device: Device,
     pub cases: u64,

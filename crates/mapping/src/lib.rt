@@ -1,3 +1,4 @@
+#![tactic(auto)]
 // The maps of process data, after wish 2 of document 02: what may be mapped, what becomes of a write, what makes a map sound.
 ghost use Rattle.std.specs.Prelude.{◌≡◌};
 ghost use Rattle.integers.specs.Words.{◌among◌};
@@ -10,21 +11,21 @@ ghost use Rattle.mapping.specs.Asked.{Few, Counting, Fitting};
 pub const ENTRIES: usize = 4;
 
 // How many of them are counted, and the entries.
-#[derive(Drop)]
+#[derive(Clone, Copy)]
 pub struct Map {
     pub count: u8,
     pub entries: [u32; ENTRIES],
 }
 
 // What is received, and what is sent.
-#[derive(Drop)]
+#[derive(Clone, Copy)]
 pub struct Maps {
     pub receive: Map,
     pub transmit: Map,
 }
 
 // What becomes of a write to a map.
-#[derive(Drop)]
+#[derive(Clone, Copy)]
 pub enum Ruling {
     Accepted,
     WhileCounted,

@@ -1,3 +1,4 @@
+#![tactic(auto)]
 // The object table of document 01, with the maps, the dither and the two blocks of document 02. What is read, written, kept sound, stored and loaded goes by its rows.
 ghost use Rattle.std.specs.Prelude.{◌≡◌, ◌+◌, ◌-◌};
 ghost use Rattle.objects.specs.Table.{objects, columns_at, row_at, lies_in, in_row};
@@ -22,7 +23,7 @@ pub const FULL_POSITION: i64 = FULL_STROKE * PARTS;
 
 // A value by the names of its columns: its range and its fresh value, its index and sub-index, what the object consists of, and how
 // it may be written.
-#[derive(Drop)]
+#[derive(Clone, Copy)]
 pub struct Row {
     pub low: i64,
     pub high: i64,
@@ -108,7 +109,7 @@ pub const POSITION: u8 = 0;
 pub const PRESSURE: u8 = 1;
 
 // A row as the table prints it: index, sub-index, entries, type, size, access, low, high, fresh value, lock.
-#[derive(Drop)]
+#[derive(Clone, Copy)]
 pub struct Columns(
     pub u16,
     pub u8,
@@ -195,6 +196,7 @@ const OBJECTS: [Columns; ROWS] = [
 
 // The columns at a place. Only this function reads the table: an arm for each row, since a place that is not known beforehand would
 // have the whole array written out first.
+#[tactic(auto, unfolding(crate::specs::Table::objects))]
 fn columns_at(place: usize) -> Columns
     requires { InTable place }
     ensures { result ≡ columns_at place }
@@ -240,6 +242,7 @@ fn columns_at(place: usize) -> Columns
     }
 }
 
+#[tactic(auto, unfolding(crate::specs::Table::is_signed))]
 fn is_signed(kind: u8) -> bool
     ensures { result ≡ Table.is_signed kind }
 {
@@ -247,6 +250,7 @@ fn is_signed(kind: u8) -> bool
 }
 
 // A choice among numbered kinds, of which too high and too low are the same mistake.
+#[tactic(auto, unfolding(crate::specs::Table::is_choice))]
 fn is_choice(place: usize) -> bool
     ensures { result ≡ Table.is_choice place }
 {
@@ -278,6 +282,7 @@ pub fn row_at(place: usize) -> Row
 }
 
 // From `low` to `high`, ends included.
+#[tactic(auto, unfolding(crate::specs::Table::lies_in))]
 pub fn lies_in(low: i64, high: i64, x: i64) -> bool
     ensures { result ≡ lies_in low high x }
 {
@@ -294,6 +299,7 @@ pub fn in_range(place: usize, x: i64) -> bool
 }
 
 // The index of the object at a place, by their names; a map has five places.
+#[tactic(auto, unfolding(crate::specs::Table::objects, integers::specs::Words::each))]
 pub fn index_of(place: usize) -> u16
     requires { InTable place }
     ensures { result ≡ (row_at place).index }
@@ -333,7 +339,7 @@ pub fn index_of(place: usize) -> u16
 // ---- from an index and a sub-index to a row and an entry
 
 // Of which block an index is, and where it stands in the table: its first row.
-#[derive(Drop)]
+#[derive(Clone, Copy)]
 pub enum Place {
     At { which: u8, place: usize },
     Nowhere,
@@ -352,6 +358,7 @@ fn in_run(which: u8, place: usize, from: u16, index: u16) -> Place
 
 // The place of an object of a block, by its index in the position block. The objects stand in runs of consecutive indexes, and so do
 // their rows.
+#[tactic(auto, unfolding(crate::specs::Table::objects, crate::specs::Lookup::place_from, integers::specs::Words::each))]
 fn own_place(which: u8, index: u16) -> Place
     requires { InBlock index }
     ensures { result ≡ place_from which 0 objects index }
@@ -377,6 +384,7 @@ fn own_place(which: u8, index: u16) -> Place
 }
 
 // The place of any object, by its index or that of its counterpart.
+#[tactic(auto, unfolding(crate::specs::Table::objects, crate::specs::Lookup::place_from, integers::specs::Words::each))]
 fn place_in(which: u8, index: u16) -> Place
     ensures { result ≡ place_from which 0 objects index }
 {
@@ -405,6 +413,7 @@ fn place_in(which: u8, index: u16) -> Place
 }
 
 // The block of which an index is: 6380h to 63C5h are those of the pressure block.
+#[tactic(auto, unfolding(crate::specs::Lookup::block_number))]
 fn block_number(index: u16) -> u8
     ensures { result ≡ block_number index }
 {
@@ -415,6 +424,7 @@ fn block_number(index: u16) -> u8
 }
 
 // A pressure object has the place of its counterpart, 80h below it.
+#[tactic(auto, unfolding(crate::specs::Lookup::place_of))]
 pub fn place_of(index: u16) -> Place
     ensures { result ≡ place_of index }
 {
@@ -423,7 +433,7 @@ pub fn place_of(index: u16) -> Place
 }
 
 // What stands at a sub-index: the value so many rows after the object's first, a byte that never changes, or nothing.
-#[derive(Drop)]
+#[derive(Clone, Copy)]
 pub enum Entry {
     Value(u8),
     Fixed(u8),
@@ -436,6 +446,7 @@ const SECONDS: u8 = 0x03;
 const MILLI: u8 = 0xFD;
 
 // A record has its number of entries at 0 and its value at 1; a time has its unit at 2 and its prefix at 3.
+#[tactic(auto, unfolding(crate::specs::Lookup::record_entry))]
 fn record_entry(entries: u8, sub: u8) -> Entry
     ensures { result ≡ record_entry entries sub }
 {
@@ -448,6 +459,7 @@ fn record_entry(entries: u8, sub: u8) -> Entry
 }
 
 // A sub-index beyond the entries is missing. A variable's only one is its value, and each of a map's is one.
+#[tactic(auto, unfolding(crate::specs::Lookup::entry_at))]
 pub fn entry_at(entries: u8, sub: u8) -> Entry
     ensures { result ≡ entry_at entries sub }
 {

@@ -1,3 +1,4 @@
+#![tactic(auto)]
 // Process data: a received PDO acts as the SDO writes that its map names do, and the PDO that is sent has the values that SDO reads give.
 ghost use Rattle.std.specs.Prelude.{◌≡◌, drop};
 ghost use Rattle.std.proofs.Math.Seq.{paste};

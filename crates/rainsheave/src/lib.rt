@@ -1,3 +1,4 @@
+#![tactic(auto)]
 // Rainsheave, the public library: every call, for every frame, image, event and state that can be handed in. No call has a `requires`:
 // what is not allowed is refused by number, the device comes back as it came, and a refusal writes nothing.
 ghost use Rattle.std.specs.Prelude.{◌≡◌, pos};
@@ -44,21 +45,21 @@ use sdo::{Answer, Outcome};
 pub use sdo::{number_of as number_of_outcome, read_request, write_request};
 
 // What becomes of an SDO request: it is refused by a number, or decided.
-#[derive(Drop)]
+#[derive(Clone, Copy)]
 pub enum Settled {
     Refused(u8),
     Decided(Decision),
 }
 
 // What becomes of a call that changes the device.
-#[derive(Drop)]
+#[derive(Clone, Copy)]
 pub enum Report {
     Done,
     Refused(u8),
 }
 
 // A report beside the device as it is then.
-#[derive(Drop)]
+#[derive(Clone, Copy)]
 pub struct Change {
     pub device: Device,
     pub report: Report,
@@ -66,14 +67,14 @@ pub struct Change {
 
 // The answer of a query: the number handed back, and the value, which is 0 where the number is not.
 #[repr(C)]
-#[derive(Drop)]
+#[derive(Clone, Copy)]
 pub struct Reading {
     pub value: i64,
     pub number: u8,
 }
 
 // What was sent: a report beside how many bytes were written, which are none where it is refused.
-#[derive(Drop)]
+#[derive(Clone, Copy)]
 pub struct Sent {
     pub length: usize,
     pub report: Report,

@@ -1,3 +1,4 @@
+#![tactic(auto)]
 // The ramp: one tick, a jump of n ticks, and the ticks to go.
 ghost use Rattle.std.specs.Prelude.{◌≡◌, nat_abs};
 ghost use Rattle.ramp.specs.Ramp.{
@@ -19,7 +20,7 @@ ghost use Rattle.ramp.specs.Ramp as Ramps;
 ghost use Rattle.ramp.specs.Asked.{BothInside, Spanned, Movable, Steppable};
 
 // The times of 6331h to 6333h, or of 6334h to 6336h.
-#[derive(Drop)]
+#[derive(Clone, Copy)]
 pub struct Times {
     pub one: i64,
     pub positive: i64,
@@ -27,7 +28,7 @@ pub struct Times {
 }
 
 // The ramp type, 6330h, and its times.
-#[derive(Drop)]
+#[derive(Clone, Copy)]
 pub struct Ramp {
     pub kind: i64,
     pub acceleration: Times,

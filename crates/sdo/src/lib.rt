@@ -1,3 +1,4 @@
+#![tactic(auto)]
 // The SDO service: requests and replies as bytes. What becomes of a request is the dictionary's decision.
 ghost use Rattle.std.specs.Prelude.{◌≡◌};
 ghost use Rattle.device.specs.Sound.{Sound};
@@ -10,7 +11,7 @@ use device::Device;
 use dictionary::{Decision, UNKNOWN_COMMAND};
 
 // What a request says; the number is that of its four data bytes.
-#[derive(Drop)]
+#[derive(Clone, Copy)]
 pub struct Request {
     pub command: u8,
     pub sub: u8,
@@ -19,7 +20,7 @@ pub struct Request {
 }
 
 // What a command byte asks: a read, or a write of so many bytes.
-#[derive(Drop)]
+#[derive(Clone, Copy)]
 pub enum Asks {
     Reads,
     Writes(u8),
@@ -27,7 +28,7 @@ pub enum Asks {
 }
 
 // What a request leads to: so many bytes of a number read, a write done, an abort with its code, or a refusal with its number.
-#[derive(Drop)]
+#[derive(Clone, Copy)]
 pub enum Outcome {
     Read { size: u8, number: u32 },
     Written,
@@ -36,7 +37,7 @@ pub enum Outcome {
 }
 
 // An outcome beside the device as it is then.
-#[derive(Drop)]
+#[derive(Clone, Copy)]
 pub struct Answer {
     pub device: Device,
     pub outcome: Outcome,

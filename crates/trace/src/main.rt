@@ -1,3 +1,4 @@
+#![tactic(auto)]
 // Reads a file of event records from standard input, and writes a line for each event to standard output. A read that fails ends
 // the run, and is told on standard error.
 ghost use Rattle.io.specs.Counts.{IsPrefixLen};
@@ -9,14 +10,14 @@ use tracing::Run;
 const BLOCK_LENGTH: usize = 2048;
 
 // A run after a block, and whether there may be another block.
-#[derive(Drop)]
+#[derive(Clone, Copy)]
 struct Progress {
     run: Run,
     more: bool,
 }
 
 // How many bytes of the input stand at the start of a room, and whether the read after them failed.
-#[derive(Drop)]
+#[derive(Clone, Copy)]
 struct Filled {
     n: usize,
     failed: bool,

@@ -10,7 +10,7 @@ use rainsheave::Change;
 
 // What a call hands back, and whether it keeps every byte of the room that it is lent. A call that hands back no device counts as
 // one that hands back its own, and one that is lent no room as one that keeps it.
-#[derive(Drop)]
+#[derive(Clone, Copy)]
 pub struct Called {
     pub device: Device,
     pub number: u8,

@@ -1,3 +1,4 @@
+#![tactic(auto)]
 // A run of events over a device, with a line of text for each event.
 mod calls;
 mod text;
@@ -9,14 +10,14 @@ use image::IMAGE_LENGTH;
 use rainsheave::{Change, Reading, Report};
 
 // A run: its device, and the image that was stored last.
-#[derive(Drop)]
+#[derive(Clone, Copy)]
 pub struct Run {
     pub device: Device,
     pub image: [u8; IMAGE_LENGTH],
 }
 
 // What a record says.
-#[derive(Drop)]
+#[derive(Clone, Copy)]
 pub struct Event {
     pub kind: u8,
     pub small: u8,
@@ -26,7 +27,7 @@ pub struct Event {
 }
 
 // A run, and where its text ends.
-#[derive(Drop)]
+#[derive(Clone, Copy)]
 pub struct Traced {
     pub run: Run,
     pub end: usize,

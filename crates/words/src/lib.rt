@@ -1,3 +1,4 @@
+#![tactic(auto)]
 // A device as words of 64 bits: whether words hold a device, the device that they hold, and what each change of a device stores. Only
 // those words are stored that the change can alter.
 ghost use Rattle.std.specs.Prelude.{◌≡◌, ◌&&◌, pos};
