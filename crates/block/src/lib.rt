@@ -79,6 +79,7 @@ pub fn with_settings(block: Block, settings: [i64; SETTINGS]) -> Block
 
 // ---- the target
 
+#[tactic(auto, unfolding(crate::specs::Target::clamp_to))]
 fn clamp_to(lower: i64, upper: i64, x: i64) -> i64
     ensures { result ≡ clamp_to lower upper x }
 {
@@ -91,6 +92,7 @@ fn clamp_to(lower: i64, upper: i64, x: i64) -> i64
     }
 }
 
+#[tactic(auto, unfolding(crate::specs::Target::clamp_to_stroke))]
 fn clamp_to_stroke(x: i64) -> i64
     ensures { result ≡ clamp_to_stroke x }
 {
@@ -102,6 +104,7 @@ const ONE: u64 = PARTS as u64;
 
 // The magnitude is scaled and the sign put back at the end, so that both signs read alike: the fraction is dropped on both.
 // Nothing can overflow: x lies at most 2^15 from zero and the factor is below 2^32, so that the product is below 2^47 and the scaled magnitude below 2^31.
+#[tactic(auto, unfolding(crate::specs::Target::scaled_by, objects::specs::Table::objects))]
 fn scaled_by(factor: i64, x: i64) -> i64
     requires { Scaling factor x }
     ensures { result ≡ scaled_by factor x }
@@ -112,6 +115,7 @@ fn scaled_by(factor: i64, x: i64) -> i64
     if x < 0 { -scaled } else { scaled }
 }
 
+#[tactic(auto, unfolding(objects::specs::Table::objects, crate::specs::Target::target_from))]
 fn target_from(lower: i64, upper: i64, factor: i64, offset: i64, zero: i64, input: i64) -> i64
     requires { Chain lower upper factor offset zero input }
     ensures { result ≡ target_from lower upper factor offset zero input }
@@ -120,6 +124,7 @@ fn target_from(lower: i64, upper: i64, factor: i64, offset: i64, zero: i64, inpu
     clamp_to_stroke(scaled + offset + zero)
 }
 
+#[tactic(auto, unfolding(crate::specs::Target::input_of))]
 fn input(block: Block, active: bool) -> i64
     ensures { result ≡ input_of active block }
 {
@@ -131,6 +136,7 @@ fn input(block: Block, active: bool) -> i64
 }
 
 // The target in ir. `active` says whether the input is the set point or the hold set point.
+#[tactic(auto, unfolding(crate::specs::Target::target_of))]
 pub fn target(block: Block, active: bool) -> i64
     requires { Sound block }
     ensures { result ≡ target_of active block }
@@ -145,6 +151,7 @@ pub fn target(block: Block, active: bool) -> i64
     )
 }
 
+#[tactic(auto, unfolding(crate::specs::Target::target_position))]
 fn target_position(block: Block, active: bool) -> i64
     requires { Sound block }
     ensures { result ≡ target_position active block }
@@ -154,12 +161,14 @@ fn target_position(block: Block, active: bool) -> i64
 
 // ---- the command
 
+#[tactic(auto, unfolding(crate::specs::Command::whole_of))]
 fn whole_of(position: i64) -> i64
     ensures { result ≡ whole_of position }
 {
     position / PARTS
 }
 
+#[tactic(auto, unfolding(objects::specs::Table::objects, crate::specs::Command::banded))]
 fn banded(a_side: i64, b_side: i64, threshold: i64, r: i64) -> i64
     requires { Band a_side b_side threshold r }
     ensures { result ≡ Commands.banded a_side b_side threshold r }
@@ -173,6 +182,7 @@ fn banded(a_side: i64, b_side: i64, threshold: i64, r: i64) -> i64
     }
 }
 
+#[tactic(auto, unfolding(crate::specs::Command::banded_by))]
 fn banded_by(kind: i64, a_side: i64, b_side: i64, threshold: i64, r: i64) -> i64
     requires { Band a_side b_side threshold r }
     ensures { result ≡ banded_by kind a_side b_side threshold r }
@@ -185,6 +195,7 @@ fn banded_by(kind: i64, a_side: i64, b_side: i64, threshold: i64, r: i64) -> i64
 }
 
 // The position in whole ir behind the dead band.
+#[tactic(auto, unfolding(crate::specs::Command::banded_of))]
 fn banded_of(block: Block) -> i64
     requires { Sound block }
     ensures { result ≡ banded_of block }
@@ -199,6 +210,7 @@ fn banded_of(block: Block) -> i64
 }
 
 // The command in ir: inside the dead band it is the dither alone, and the last clamp takes in the dither too.
+#[tactic(auto, unfolding(crate::specs::Command::command_of))]
 pub fn command(block: Block, dither: i64) -> i64
     requires { Dithered block dither }
     ensures { result ≡ command_of dither block }
@@ -225,6 +237,7 @@ fn are_limits_sound(settings: [i64; SETTINGS]) -> bool
 }
 
 // The settings of two blocks: each is in its row's range, and no limits are crossed.
+#[tactic(auto, unfolding(crate::specs::Sound::sound_settings))]
 fn are_settings_sound(settings: [i64; SETTINGS], others: [i64; SETTINGS]) -> bool
     ensures { result ≡ (sound_settings settings && sound_settings others) }
 {
@@ -254,6 +267,7 @@ fn is_placed(block: Block) -> bool
 }
 
 // Two blocks at once, so that each row is looked up once for both. The settings first: in the other order every call costs more.
+#[tactic(auto, unfolding(crate::specs::Sound::sound_block))]
 pub fn are_sound(block: Block, other: Block) -> bool
     ensures { result ≡ (sound_block block && sound_block other) }
 {
@@ -263,6 +277,7 @@ pub fn are_sound(block: Block, other: Block) -> bool
 }
 
 // Every setting as the table has it fresh.
+#[tactic(auto, unfolding(crate::specs::Block::fresh_block))]
 pub fn fresh() -> Block
     ensures { result ≡ fresh_block }
 {
@@ -311,6 +326,7 @@ pub fn at_target(block: Block, active: bool) -> bool
 }
 
 // One tick.
+#[tactic(auto, unfolding(crate::specs::Travel::tick_block))]
 pub fn tick(block: Block, active: bool) -> Block
     requires { Sound block }
     ensures { result ≡ tick_block active block }
@@ -326,6 +342,7 @@ pub fn tick(block: Block, active: bool) -> Block
 }
 
 // n ticks at once.
+#[tactic(auto, unfolding(crate::specs::Travel::jump_block))]
 pub fn jump(block: Block, active: bool, n: u32) -> Block
     requires { Sound block }
     ensures { result ≡ jump_block active n block }
@@ -342,6 +359,7 @@ pub fn jump(block: Block, active: bool, n: u32) -> Block
 }
 
 // The ticks until the target is met.
+#[tactic(auto, unfolding(crate::specs::Travel::ticks_to_go_of))]
 pub fn ticks_to_go(block: Block, active: bool) -> u32
     requires { Sound block }
     ensures { result ≡ ticks_to_go_of active block }

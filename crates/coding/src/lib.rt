@@ -8,6 +8,7 @@ ghost use Rattle.coding.specs.Bytes.{byte_of, byte_at, two_of, four_of};
 ghost use Rattle.coding.specs.Asked.{BelowSpan, OfFour, Room};
 
 // How many numbers so many bytes hold.
+#[tactic(auto, unfolding(crate::specs::Coding::span))]
 fn span(size: u8) -> u64
     ensures { result ≡ Codings.span size }
 {
@@ -19,6 +20,7 @@ fn span(size: u8) -> u64
 }
 
 // The value for which a number below the span stands.
+#[tactic(auto, unfolding(crate::specs::Coding::in_span))]
 fn in_span(limit: u64, signed: bool, low: u64) -> i64
     requires { BelowSpan limit low }
     ensures { result ≡ in_span limit signed low }
@@ -31,6 +33,7 @@ fn in_span(limit: u64, signed: bool, low: u64) -> i64
 }
 
 // The value for which so many low bytes of a number stand.
+#[tactic(auto, unfolding(crate::specs::Coding::value_of))]
 pub fn value_of(size: u8, signed: bool, number: u32) -> i64
     ensures { result ≡ value_of size signed number }
 {

@@ -71,6 +71,7 @@ pub const TARGET_MET: u16 = 256;
 // ---- the parts of a device
 
 // DISABLED, with every object as the table has it fresh.
+#[tactic(auto, unfolding(crate::specs::Device::fresh_device))]
 pub fn fresh() -> Device
     ensures { result ≡ fresh_device }
 {
@@ -106,6 +107,7 @@ pub fn with_other(device: Device, block: Block) -> Device
 }
 
 // The block of a number.
+#[tactic(auto, unfolding(crate::specs::Device::block_of))]
 pub fn block_of(device: Device, which: u8) -> Block
     ensures { result ≡ block_of which device }
 {
@@ -117,6 +119,7 @@ pub fn block_of(device: Device, which: u8) -> Block
 }
 
 // The device with another block of a number.
+#[tactic(auto, unfolding(crate::specs::Device::with_block_of))]
 pub fn with_block_of(device: Device, which: u8, block: Block) -> Device
     ensures { result ≡ with_block_of which block device }
 {
@@ -128,6 +131,7 @@ pub fn with_block_of(device: Device, which: u8, block: Block) -> Device
 }
 
 // The device with the block of a number selected: where it is the other one, the two change places.
+#[tactic(auto, unfolding(crate::specs::Device::selecting))]
 pub fn select(device: Device, which: u8) -> Device
     ensures { result ≡ selecting which device }
 {
@@ -162,6 +166,7 @@ pub fn with_dither(device: Device, dither: Dither) -> Device
 }
 
 // The valve is driven in HOLD and ACTIVE.
+#[tactic(auto, unfolding(crate::specs::States::driven))]
 fn driven(state: u8) -> bool
     ensures { result ≡ States.driven state }
 {
@@ -174,6 +179,7 @@ fn driven(state: u8) -> bool
 // ---- soundness
 
 // One of the four states, with an error code exactly in FAULT.
+#[tactic(auto, unfolding(crate::specs::Sound::is_a_state, crate::specs::Sound::error_fits))]
 fn state_fits(state: u8, error: u16) -> bool
     ensures { result ≡ (is_a_state state && error_fits state error) }
 {
@@ -185,6 +191,7 @@ fn state_fits(state: u8, error: u16) -> bool
 }
 
 // Not driven, the valve rests at position 0, and the dither at phase 0.
+#[tactic(auto, unfolding(crate::specs::Sound::rests))]
 fn rests(device: Device) -> bool
     ensures { result ≡ Sounds.rests device }
 {
@@ -194,6 +201,7 @@ fn rests(device: Device) -> bool
 }
 
 // One of the two blocks is selected, and the other one is at position 0.
+#[tactic(auto, unfolding(crate::specs::Sound::selection_fits))]
 fn selection_fits(device: Device) -> bool
     ensures { result ≡ selection_fits device }
 {
@@ -202,6 +210,7 @@ fn selection_fits(device: Device) -> bool
 }
 
 // The cheap tests first.
+#[tactic(auto, unfolding(crate::specs::Sound::sound_device))]
 pub fn is_sound(device: Device) -> bool
     ensures { result ≡ sound_device device }
 {
@@ -219,6 +228,7 @@ pub fn is_sound(device: Device) -> bool
 
 // ---- control words and faults
 
+#[tactic(auto, unfolding(crate::specs::States::from_disabled))]
 fn from_disabled(word: u16) -> u8
     ensures { result ≡ from_disabled word }
 {
@@ -230,6 +240,7 @@ fn from_disabled(word: u16) -> u8
 }
 
 // Bits 0 to 2. HOLD and ACTIVE have one table: where a word leads does not depend on which of the two it finds.
+#[tactic(auto, unfolding(crate::specs::States::from_hold, crate::specs::States::from_active))]
 fn from_driven(word: u16) -> u8
     ensures hold { result ≡ from_hold word }
     ensures active { result ≡ from_active word }
@@ -243,6 +254,7 @@ fn from_driven(word: u16) -> u8
 }
 
 // Bit 3 resets a fault where it was clear before: an edge, not a level.
+#[tactic(auto, unfolding(crate::specs::States::from_fault))]
 fn from_fault(before: u16, word: u16) -> u8
     ensures { result ≡ from_fault before word }
 {
@@ -252,6 +264,7 @@ fn from_fault(before: u16, word: u16) -> u8
 }
 
 // The state after an accepted control word.
+#[tactic(auto, unfolding(crate::specs::States::next_state))]
 fn next_state(state: u8, before: u16, word: u16) -> u8
     ensures { result ≡ next_state state before word }
 {
@@ -264,6 +277,7 @@ fn next_state(state: u8, before: u16, word: u16) -> u8
 }
 
 // In DISABLED and FAULT the position is 0.
+#[tactic(auto, unfolding(crate::specs::Events::block_in))]
 fn block_in(state: u8, block: Block) -> Block
     ensures { result ≡ block_in state block }
 {
@@ -275,6 +289,7 @@ fn block_in(state: u8, block: Block) -> Block
 }
 
 // In DISABLED and FAULT the phase is 0.
+#[tactic(auto, unfolding(crate::specs::Events::dither_in))]
 fn dither_in(state: u8, dither: Dither) -> Dither
     ensures { result ≡ dither_in state dither }
 {
@@ -286,6 +301,7 @@ fn dither_in(state: u8, dither: Dither) -> Dither
 }
 
 // Only in FAULT there is an error code.
+#[tactic(auto, unfolding(crate::specs::Events::error_in))]
 fn error_in(state: u8, error: u16) -> u16
     ensures { result ≡ error_in state error }
 {
@@ -293,6 +309,7 @@ fn error_in(state: u8, error: u16) -> u16
 }
 
 // The device as it enters a state, which may be the one that it is in.
+#[tactic(auto, unfolding(crate::specs::Events::entering))]
 fn entering(device: Device, state: u8) -> Device
     ensures { result ≡ Events.entering state device }
 {
@@ -309,6 +326,7 @@ fn entering(device: Device, state: u8) -> Device
 }
 
 // What an accepted control word does.
+#[tactic(auto, unfolding(crate::specs::Events::controlled))]
 pub fn control(device: Device, word: u16) -> Device
     ensures { result ≡ controlled word device }
 {
@@ -318,6 +336,7 @@ pub fn control(device: Device, word: u16) -> Device
 }
 
 // The device with the code of a report: in FAULT the first code stays.
+#[tactic(auto, unfolding(crate::specs::Events::reported))]
 fn reported(device: Device, code: u16) -> Device
     ensures { result ≡ Events.reported code device }
 {
@@ -330,6 +349,7 @@ fn reported(device: Device, code: u16) -> Device
 }
 
 // What a fault report with a code other than 0 does.
+#[tactic(auto, unfolding(crate::specs::Events::faulted))]
 pub fn fault(device: Device, code: u16) -> Device
     ensures { result ≡ faulted code device }
 {
@@ -339,6 +359,7 @@ pub fn fault(device: Device, code: u16) -> Device
 // ---- ticks and jumps
 
 // One tick.
+#[tactic(auto, unfolding(crate::specs::Events::tick_device))]
 pub fn tick(device: Device) -> Device
     requires { Sound device }
     ensures { result ≡ tick_device device }
@@ -356,6 +377,7 @@ pub fn tick(device: Device) -> Device
 }
 
 // n ticks at once.
+#[tactic(auto, unfolding(crate::specs::Events::jump_device))]
 pub fn jump(device: Device, n: u32) -> Device
     requires { Sound device }
     ensures { result ≡ jump_device n device }
@@ -375,6 +397,7 @@ pub fn jump(device: Device, n: u32) -> Device
 // ---- queries
 
 // The ticks until the target is met: none in DISABLED and FAULT.
+#[tactic(auto, unfolding(crate::specs::Queries::device_ticks_to_go))]
 pub fn ticks_to_go(device: Device) -> u32
     requires { Sound device }
     ensures { result ≡ device_ticks_to_go device }
@@ -388,6 +411,7 @@ pub fn ticks_to_go(device: Device) -> u32
 }
 
 // The target in ir.
+#[tactic(auto, unfolding(crate::specs::Queries::device_target))]
 pub fn target(device: Device) -> i64
     requires { Sound device }
     ensures { result ≡ device_target device }
@@ -397,6 +421,7 @@ pub fn target(device: Device) -> i64
 }
 
 // The command in ir.
+#[tactic(auto, unfolding(crate::specs::Queries::device_command))]
 pub fn command(device: Device) -> i64
     requires { Sound device }
     ensures { result ≡ device_command device }
@@ -411,6 +436,7 @@ pub fn command(device: Device) -> i64
 }
 
 // The command of a block: that of the block not selected is 0.
+#[tactic(auto, unfolding(crate::specs::Queries::block_command))]
 pub fn command_of(device: Device, which: u8) -> i64
     requires { Sound device }
     ensures { result ≡ block_command which device }
@@ -420,6 +446,7 @@ pub fn command_of(device: Device, which: u8) -> i64
 }
 
 // 256 while a driven valve is at its target.
+#[tactic(auto, unfolding(crate::specs::Queries::target_met))]
 fn target_met(device: Device) -> u16
     requires { Sound device }
     ensures { result ≡ target_met device }
@@ -433,6 +460,7 @@ fn target_met(device: Device) -> u16
 }
 
 // The status word.
+#[tactic(auto, unfolding(crate::specs::Queries::status_of))]
 pub fn status(device: Device) -> u16
     requires { Sound device }
     ensures { result ≡ status_of device }

@@ -72,6 +72,7 @@ fn map_value(device: Device, which: u8, place: usize) -> i64
 }
 
 // The value of an object that is neither a stored setting nor of the dither nor a map.
+#[tactic(auto, unfolding(crate::specs::Values::value_at, objects::specs::Table::objects))]
 fn other_value(device: Device, which: u8, place: usize) -> i64
     requires { Other device place }
     ensures { Valued device which place result }
@@ -90,6 +91,7 @@ fn other_value(device: Device, which: u8, place: usize) -> i64
 }
 
 // The value of a block at a place.
+#[tactic(auto, unfolding(crate::specs::Values::value_at))]
 fn value_at(device: Device, which: u8, place: usize) -> i64
     requires { Placed device place }
     ensures { Valued device which place result }
@@ -122,6 +124,7 @@ fn row_after(place: usize, row: Row, k: u8) -> Row
 }
 
 // The bytes of an object's value.
+#[tactic(auto, unfolding(crate::specs::Decide::read_of))]
 fn read_value(device: Device, which: u8, place: usize, row: Row) -> Decision
     requires { Looked device place row }
     ensures { result ≡ read_of device (Named.value which place) }
@@ -132,6 +135,7 @@ fn read_value(device: Device, which: u8, place: usize, row: Row) -> Decision
 }
 
 // What becomes of a read of an index and a sub-index. The row is looked up and handed on.
+#[tactic(auto, unfolding(crate::specs::Named::named, crate::specs::Decide::read_decision, crate::specs::Decide::read_of))]
 pub fn decide_read(device: Device, index: u16, sub: u8) -> Decision
     requires { Sound device }
     ensures { result ≡ read_decision device index sub }
@@ -157,6 +161,7 @@ pub fn decide_read(device: Device, index: u16, sub: u8) -> Decision
 // ---- the decision on a write
 
 // The upper limit of a block would be below its lower after this write.
+#[tactic(auto, unfolding(crate::specs::Decide::crosses))]
 fn crosses(block: Block, place: usize, value: i64) -> bool
     ensures { result ≡ Decide.crosses block place value }
 {
@@ -168,6 +173,7 @@ fn crosses(block: Block, place: usize, value: i64) -> bool
 }
 
 // An object with this lock may not be written in this state.
+#[tactic(auto, unfolding(crate::specs::Decide::is_locked))]
 fn is_locked(lock: u8, state: u8) -> bool
     ensures { result ≡ is_locked lock state }
 {
@@ -197,6 +203,7 @@ fn range_code(choice: bool, code: u32) -> u32
 }
 
 // What the rules of a map say of a write to a place; elsewhere they allow all.
+#[tactic(auto, unfolding(crate::specs::Decide::map_ruling))]
 fn map_ruling(maps: Maps, place: usize, value: i64) -> Ruling
     requires { Ranged place value }
     ensures { result ≡ map_ruling maps place value }
@@ -232,6 +239,7 @@ fn ruled(ruling: Ruling, which: u8, place: usize, value: i64) -> Decision
 }
 
 // The aborts of a write of so many bytes of a number, from the fourth on.
+#[tactic(auto, unfolding(crate::specs::Decide::write_of, crate::specs::Decide::verdict_on))]
 fn write_value(device: Device, which: u8, place: usize, row: Row, size: u8, number: u32) -> Decision
     requires { Looked device place row }
     ensures { result ≡ write_of device size number (Named.value which place) }
@@ -261,6 +269,7 @@ fn write_value(device: Device, which: u8, place: usize, row: Row, size: u8, numb
 }
 
 // What becomes of a write to an index and a sub-index. The row is looked up and handed on.
+#[tactic(auto, unfolding(crate::specs::Named::named, crate::specs::Decide::write_decision, crate::specs::Decide::write_of))]
 pub fn decide_write(device: Device, index: u16, sub: u8, size: u8, number: u32) -> Decision
     requires { Sound device }
     ensures { result ≡ write_decision device index sub size number }
@@ -288,6 +297,7 @@ pub fn decide_write(device: Device, index: u16, sub: u8, size: u8, number: u32) 
 // ---- carrying it out
 
 // An accepted write to a map.
+#[tactic(auto, unfolding(crate::specs::Values::written_to))]
 fn map_written(device: Device, which: u8, place: usize, value: i64) -> Device
     requires { MapWriting place value }
     ensures { result ≡ written_to which place value device }
@@ -306,6 +316,7 @@ fn map_written(device: Device, which: u8, place: usize, value: i64) -> Device
 }
 
 // An accepted write.
+#[tactic(auto, unfolding(crate::specs::Values::written_to))]
 fn written_to(device: Device, which: u8, place: usize, value: i64) -> Device
     requires { Writing place value }
     ensures { result ≡ written_to which place value device }

@@ -53,6 +53,7 @@ const CREST: i64 = 16384;
 
 // ---- the parts
 
+#[tactic(auto, unfolding(crate::specs::Dither::fresh_dither))]
 pub fn fresh() -> Dither
     ensures { result ≡ fresh_dither }
 {
@@ -65,6 +66,7 @@ pub fn fresh() -> Dither
 }
 
 // The value of the first, the second or the third object.
+#[tactic(auto, unfolding(crate::specs::Dither::stands_at))]
 pub fn stands_at(dither: Dither, k: usize) -> i64
     ensures { result ≡ stands_at dither k }
 {
@@ -76,6 +78,7 @@ pub fn stands_at(dither: Dither, k: usize) -> i64
 }
 
 // The dither with another value there.
+#[tactic(auto, unfolding(crate::specs::Dither::with_at))]
 pub fn with_at(dither: Dither, k: usize, value: i64) -> Dither
     ensures { result ≡ with_at k value dither }
 {
@@ -98,6 +101,7 @@ pub fn at_phase(dither: Dither, phase: u32) -> Dither
 }
 
 // Each value in its row's range. That the phase has 32 bits its type says.
+#[tactic(auto, unfolding(crate::specs::Sound::sound_dither))]
 pub fn is_sound(dither: Dither) -> bool
     ensures { result ≡ sound_dither dither }
 {
@@ -109,6 +113,7 @@ pub fn is_sound(dither: Dither) -> bool
 // ---- the phase
 
 // What a tick adds to the phase: at most a quarter of a period.
+#[tactic(auto, unfolding(objects::specs::Table::objects, crate::specs::Phase::increment))]
 fn increment(dither: Dither) -> u32
     requires { Sound dither }
     ensures { result ≡ Phase.increment dither }
@@ -117,6 +122,7 @@ fn increment(dither: Dither) -> u32
 }
 
 // The phase so much further. It runs over its end on purpose.
+#[tactic(auto, unfolding(crate::specs::Phase::advanced))]
 fn advanced(phase: u32, by: u32) -> u32
     ensures { result ≡ Phase.advanced phase by }
 {
@@ -124,6 +130,7 @@ fn advanced(phase: u32, by: u32) -> u32
 }
 
 // One tick.
+#[tactic(auto, unfolding(crate::specs::Phase::tick_dither))]
 pub fn tick(dither: Dither) -> Dither
     requires { Sound dither }
     ensures { result ≡ tick_dither dither }
@@ -132,6 +139,7 @@ pub fn tick(dither: Dither) -> Dither
 }
 
 // n ticks at once: the product fits 64 bits, and is cut to 32 as the sum of each tick is.
+#[tactic(auto, unfolding(crate::specs::Phase::jump_dither, crate::specs::Phase::advanced))]
 pub fn jump(dither: Dither, n: u32) -> Dither
     requires { Sound dither }
     ensures { result ≡ jump_dither n dither }
@@ -142,6 +150,7 @@ pub fn jump(dither: Dither, n: u32) -> Dither
 
 // ---- the waves
 
+#[tactic(auto, unfolding(objects::specs::Table::objects, crate::specs::Wave::square))]
 fn square(amplitude: i64, phase: u32) -> i64
     requires { Amplitude amplitude }
     ensures { result ≡ Wave.square amplitude phase }
@@ -154,6 +163,7 @@ fn square(amplitude: i64, phase: u32) -> i64
 }
 
 // How high the triangle stands at a step: up to the first quarter, down to the third, and up again.
+#[tactic(auto, unfolding(crate::specs::Wave::height))]
 fn height(x: u32) -> i64
     ensures { result ≡ Wave.height x }
 {
@@ -167,6 +177,7 @@ fn height(x: u32) -> i64
 }
 
 // Division drops the fraction on both signs.
+#[tactic(auto, unfolding(objects::specs::Table::objects, crate::specs::Wave::triangle))]
 fn triangle(amplitude: i64, phase: u32) -> i64
     requires { Amplitude amplitude }
     ensures { result ≡ Wave.triangle amplitude phase }
@@ -175,6 +186,7 @@ fn triangle(amplitude: i64, phase: u32) -> i64
 }
 
 // The dither in ir, at the phase as it stands.
+#[tactic(auto, unfolding(objects::specs::Table::objects, crate::specs::Wave::dither_of))]
 pub fn value(dither: Dither) -> i64
     requires { Sound dither }
     ensures { result ≡ dither_of dither }

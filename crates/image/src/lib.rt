@@ -26,6 +26,7 @@ pub enum Found {
 const HEADER: usize = 3;
 
 // A field with room for the longest value: the tag, the length of the value, and four bytes of its number.
+#[tactic(auto, unfolding(coding::specs::Bytes::two_bytes, coding::specs::Bytes::four_bytes))]
 fn field(place: usize, size: u8, number: u32) -> [u8; 7]
     requires { ASetting place }
     ensures { result ≡ long_field place size number }
@@ -64,6 +65,7 @@ fn field_length(place: usize) -> usize
 }
 
 // The image of sound settings goes to the first bytes of the room; later bytes stay.
+#[tactic(auto, unfolding(crate::specs::Fields::start, crate::specs::Fields::fields, crate::specs::Fields::image_of, crate::specs::Fields::stored_in))]
 pub fn store(settings: [i64; SETTINGS], room: &mut [u8])
     requires { Storing settings room.old }
     ensures { room.new ≡ stored_in settings room.old }
@@ -81,6 +83,7 @@ pub fn store(settings: [i64; SETTINGS], room: &mut [u8])
 // ---- loading
 
 // The header of the field of a place, which starts there: its tag, and the length of its type.
+#[tactic(auto, unfolding(crate::specs::Load::head_at))]
 fn head_at(image: &[u8], from: usize, place: usize) -> bool
     requires { Starts from place }
     ensures { result ≡ head_at image.now place }
@@ -94,6 +97,7 @@ fn head_at(image: &[u8], from: usize, place: usize) -> bool
 }
 
 // Each tag once, ascending, with the length of its type, and no more.
+#[tactic(auto, unfolding(crate::specs::Fields::start))]
 pub fn is_full(image: &[u8]) -> bool
     ensures { result ≡ is_full image.now }
 {
@@ -126,6 +130,7 @@ fn four_at(image: &[u8], k: usize) -> u32
 }
 
 // The value in the field of a place, which starts there.
+#[tactic(auto, unfolding(crate::specs::Load::value_in_image))]
 fn value_in(image: &[u8], from: usize, place: usize) -> i64
     requires { Starts from place }
     ensures { result ≡ value_in_image image.now place }
@@ -135,6 +140,7 @@ fn value_in(image: &[u8], from: usize, place: usize) -> i64
 }
 
 // The settings in an image, sound or not.
+#[tactic(auto, unfolding(crate::specs::Fields::start, crate::specs::Load::values_in))]
 pub fn settings_in(image: &[u8]) -> [i64; SETTINGS]
     ensures { result ≡ settings_in image.now }
 {

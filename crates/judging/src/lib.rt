@@ -31,6 +31,7 @@ pub fn fresh() -> Tally
 }
 
 // One more; a count ends at the largest number that it can hold.
+#[tactic(auto, unfolding(crate::specs::Judging::one_more))]
 fn one_more(count: u64) -> u64
     ensures { result ≡ one_more count }
 {
@@ -38,6 +39,7 @@ fn one_more(count: u64) -> u64
 }
 
 // Eight bytes, each the same.
+#[tactic(auto, unfolding(crate::specs::Judging::same))]
 fn is_same(reply: [u8; 8], expected: &[u8]) -> bool
     requires { EightBytes expected.now }
     ensures { result ≡ same reply expected.now }
@@ -53,6 +55,7 @@ fn is_same(reply: [u8; 8], expected: &[u8]) -> bool
 }
 
 // A case passes where a reply is due and is the expected one.
+#[tactic(auto, unfolding(crate::specs::Judging::passes))]
 fn passes(outcome: Outcome, reply: [u8; 8], expected: &[u8]) -> bool
     requires { EightBytes expected.now }
     ensures { result ≡ Judging.passes outcome reply expected.now }
@@ -65,6 +68,7 @@ fn passes(outcome: Outcome, reply: [u8; 8], expected: &[u8]) -> bool
 }
 
 // How many failed, by whether one case more passes.
+#[tactic(auto, unfolding(crate::specs::Judging::failed_after))]
 fn failed_after(failed: u64, passes: bool) -> u64
     ensures { result ≡ failed_after failed passes }
 {
@@ -72,6 +76,7 @@ fn failed_after(failed: u64, passes: bool) -> u64
 }
 
 // One case more.
+#[tactic(auto, unfolding(crate::specs::Judging::judged_case))]
 fn judge(tally: Tally, case: &[u8]) -> Tally
     requires { ACase case.now }
     ensures { result ≡ judged_case case.now tally }
@@ -89,6 +94,7 @@ fn judge(tally: Tally, case: &[u8]) -> Tally
 }
 
 // All whole records of a chunk; a trailing part record is ignored.
+#[tactic(auto, unfolding(crate::specs::Judging::judged))]
 pub fn run(tally: Tally, bytes: &[u8]) -> Tally
     ensures { result ≡ judged_all bytes.now tally }
 {

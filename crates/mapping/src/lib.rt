@@ -56,6 +56,7 @@ fn is_among(mappable: [u32; 3], entry: u32) -> bool
 
 // ---- a map's parts
 
+#[tactic(auto, unfolding(crate::specs::Maps::fresh_map, crate::specs::Maps::fresh_maps))]
 pub fn fresh() -> Maps
     ensures { result ≡ fresh_maps }
 {
@@ -70,6 +71,7 @@ pub fn fresh() -> Maps
 }
 
 // What stands at a sub-index: the number of entries at 0, and then the entries.
+#[tactic(auto, unfolding(crate::specs::Maps::stands_at))]
 pub fn stands_at(map: Map, sub: usize) -> u32
     requires { Few sub }
     ensures { result ≡ stands_at map sub }
@@ -82,6 +84,7 @@ pub fn stands_at(map: Map, sub: usize) -> u32
 }
 
 // The map with another number there.
+#[tactic(auto, unfolding(crate::specs::Maps::with_at))]
 pub fn with_at(map: Map, sub: usize, number: u32) -> Map
     requires { Fitting sub number }
     ensures { result ≡ with_at sub number map }
@@ -114,6 +117,7 @@ pub fn with_transmit(maps: Maps, map: Map) -> Maps
 }
 
 // How many bytes the PDO of a map has.
+#[tactic(auto, unfolding(crate::specs::Maps::map_length))]
 pub fn length(map: Map) -> usize
     requires { Few map.count }
     ensures { result ≡ map_length map }
@@ -131,6 +135,7 @@ pub fn length(map: Map) -> usize
 // ---- a write
 
 // Each of the first n entries may be mapped.
+#[tactic(auto, unfolding(crate::specs::Rules::each_mapped))]
 fn each_mapped(mappable: [u32; 3], map: Map, n: usize) -> bool
     requires { Few n }
     ensures { result ≡ each_mapped mappable map n }
@@ -147,6 +152,7 @@ fn each_mapped(mappable: [u32; 3], map: Map, n: usize) -> bool
 }
 
 // What the write would leave is right: every entry that sub 0 would count may be mapped; an entry is zero or may be mapped.
+#[tactic(auto, unfolding(crate::specs::Rules::is_right))]
 fn is_right(mappable: [u32; 3], map: Map, sub: usize, number: u32) -> bool
     requires { Counting sub number }
     ensures { result ≡ is_right mappable map sub number }
@@ -159,6 +165,7 @@ fn is_right(mappable: [u32; 3], map: Map, sub: usize, number: u32) -> bool
 }
 
 // What becomes of a write of a number to a sub-index of a map, in the order of the aborts.
+#[tactic(auto, unfolding(crate::specs::Rules::ruling_on))]
 pub fn ruling_on(mappable: [u32; 3], map: Map, sub: usize, number: u32) -> Ruling
     ensures { result ≡ ruling_on mappable map sub number }
 {
@@ -177,6 +184,7 @@ pub fn ruling_on(mappable: [u32; 3], map: Map, sub: usize, number: u32) -> Rulin
 // ---- soundness
 
 // The entry at a place, of so many that are counted, is zero and not counted, or may be mapped.
+#[tactic(auto, unfolding(crate::specs::Sound::may_stand))]
 fn may_stand(mappable: [u32; 3], count: usize, k: usize, entry: u32) -> bool
     ensures { result ≡ may_stand mappable count k entry }
 {
@@ -187,6 +195,7 @@ fn may_stand(mappable: [u32; 3], count: usize, k: usize, entry: u32) -> bool
     }
 }
 
+#[tactic(auto, unfolding(crate::specs::Sound::sound_map))]
 fn is_sound_map(mappable: [u32; 3], map: Map) -> bool
     ensures { result ≡ sound_map mappable map }
 {
@@ -206,6 +215,7 @@ fn is_sound_map(mappable: [u32; 3], map: Map) -> bool
 }
 
 // Both maps, each with what may be mapped in its direction.
+#[tactic(auto, unfolding(crate::specs::Sound::sound_maps))]
 pub fn is_sound(maps: Maps) -> bool
     ensures { result ≡ sound_maps maps }
 {

@@ -50,6 +50,7 @@ fn act(device: Device, entry: u32, pdo: &[u8], at: usize) -> Device
 }
 
 // The entries of the receive map act in map order.
+#[tactic(auto, unfolding(crate::specs::Receive::received))]
 pub fn receive(device: Device, pdo: &[u8]) -> Device
     requires { Sound device }
     ensures { result ≡ received (counted device.maps.receive) pdo.now device }
@@ -84,6 +85,7 @@ fn number_of(device: Device, entry: u32) -> u32
 }
 
 // Its four bytes.
+#[tactic(auto, unfolding(coding::specs::Bytes::four_bytes))]
 fn value_bytes(device: Device, entry: u32) -> [u8; 4]
     requires { Telling device entry }
     ensures { result ≡ four_bytes (number_read (read_decision device (index_of entry) (sub_of entry))) }
@@ -98,6 +100,7 @@ fn value_bytes(device: Device, entry: u32) -> [u8; 4]
 }
 
 // The bytes of an entry, as many as its length, go to the room from a place on.
+#[tactic(auto, unfolding(crate::specs::Send::sent_by))]
 fn put_value(device: Device, entry: u32, room: &mut [u8], at: usize)
     requires { Putting device entry room.old at }
     ensures { room.new ≡ paste room.old at (sent_by device entry) (bytes_of entry) }
@@ -108,6 +111,7 @@ fn put_value(device: Device, entry: u32, room: &mut [u8], at: usize)
 }
 
 // The values of the transmit map go to the first bytes of the room; later bytes stay.
+#[tactic(auto, unfolding(crate::specs::Send::sent, crate::specs::Send::sent_in))]
 pub fn send(device: Device, room: &mut [u8])
     requires { Sending device room.old }
     ensures { room.new ≡ sent_in device (counted device.maps.transmit) room.old }

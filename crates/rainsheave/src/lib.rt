@@ -141,6 +141,7 @@ pub fn fresh() -> Device
 }
 
 // What becomes of an SDO request, whose reply goes to the first eight bytes of the room. `sdo` carries it out.
+#[tactic(auto, unfolding(crate::specs::Calls::sdo_settled, crate::specs::Calls::sdo_room, sdo::specs::Frames::replied_in, crate::specs::Calls::sdo_answer, sdo::specs::Serve::served))]
 pub fn settle(device: Device, request: &[u8], reply: &mut [u8]) -> Settled
     ensures { SettleIs device request.now reply.old reply.new result }
 {
@@ -174,6 +175,7 @@ pub fn sdo(device: Device, request: &[u8], reply: &mut [u8]) -> Answer
 }
 
 // A control word, as an accepted SDO write of 6040h.
+#[tactic(auto, unfolding(crate::specs::Calls::control_answer))]
 pub fn control(device: Device, word: u16) -> Change
     ensures { ControlIs device word result }
 {
@@ -185,6 +187,7 @@ pub fn control(device: Device, word: u16) -> Change
 }
 
 // A fault report.
+#[tactic(auto, unfolding(crate::specs::Calls::fault_answer))]
 pub fn fault(device: Device, code: u16) -> Change
     ensures { FaultIs device code result }
 {
@@ -198,6 +201,7 @@ pub fn fault(device: Device, code: u16) -> Change
 }
 
 // One tick of 1 ms.
+#[tactic(auto, unfolding(crate::specs::Calls::tick_answer))]
 pub fn tick(device: Device) -> Change
     ensures { TickIs device result }
 {
@@ -209,6 +213,7 @@ pub fn tick(device: Device) -> Change
 }
 
 // n ticks at once.
+#[tactic(auto, unfolding(crate::specs::Calls::jump_answer))]
 pub fn jump(device: Device, n: u32) -> Change
     ensures { JumpIs device n result }
 {
@@ -298,6 +303,7 @@ pub fn ticks_to_go(device: Device) -> Reading
 }
 
 // A PDO is received: the first bytes act as its map says.
+#[tactic(auto, unfolding(crate::specs::Calls::receive_answer))]
 pub fn receive(device: Device, pdo: &[u8]) -> Change
     ensures { ReceiveIs device pdo.now result }
 {
@@ -313,6 +319,7 @@ pub fn receive(device: Device, pdo: &[u8]) -> Change
 }
 
 // A PDO is sent: the mapped values go to the first bytes of the room.
+#[tactic(auto, unfolding(crate::specs::Calls::send_room, crate::specs::Calls::send_answer))]
 pub fn send(device: Device, room: &mut [u8]) -> Sent
     ensures { SendIs device room.old room.new result }
 {
@@ -331,6 +338,7 @@ pub fn send(device: Device, room: &mut [u8]) -> Sent
 }
 
 // The image of the position block's settings, whichever block is selected, goes to the first 97 bytes of the room.
+#[tactic(auto, unfolding(crate::specs::Calls::store_room, crate::specs::Calls::store_answer))]
 pub fn store(device: Device, room: &mut [u8]) -> Report
     ensures { StoreIs device room.old room.new result }
 {
@@ -347,6 +355,7 @@ pub fn store(device: Device, room: &mut [u8]) -> Report
 }
 
 // All the settings of a full image, or none, go to the position block.
+#[tactic(auto, unfolding(crate::specs::Calls::load_answer))]
 pub fn load(device: Device, image: &[u8]) -> Change
     ensures { LoadIs device image.now result }
 {

@@ -46,6 +46,7 @@ fn size(z: i64) -> u64
     if z < 0 { (0 - z) as u64 } else { z as u64 }
 }
 
+#[tactic(auto, unfolding(crate::specs::Ramp::side_of))]
 fn side_of(times: Times, z: i64) -> i64
     ensures { result ≡ side_of times z }
 {
@@ -56,6 +57,7 @@ fn side_of(times: Times, z: i64) -> i64
     }
 }
 
+#[tactic(auto, unfolding(crate::specs::Ramp::away_time))]
 fn away_time(ramp: Ramp, z: i64) -> i64
     ensures { result ≡ away_time ramp z }
 {
@@ -67,6 +69,7 @@ fn away_time(ramp: Ramp, z: i64) -> i64
     }
 }
 
+#[tactic(auto, unfolding(crate::specs::Ramp::back_time))]
 fn back_time(ramp: Ramp, z: i64) -> i64
     ensures { result ≡ back_time ramp z }
 {
@@ -82,6 +85,7 @@ fn back_time(ramp: Ramp, z: i64) -> i64
 }
 
 // Full stroke over the time; time 0 has the step of time 1.
+#[tactic(auto, unfolding(crate::specs::Ramp::step_of, objects::specs::Table::objects))]
 fn step_of(time: i64) -> u64
     requires { Timed time }
     ensures { result ≡ step_of time }
@@ -94,12 +98,14 @@ fn step_of(time: i64) -> u64
     }
 }
 
+#[tactic(auto, unfolding(crate::specs::Ramp::opposite))]
 fn opposite(t: i64, p: i64) -> bool
     ensures { result ≡ Ramps.opposite t p }
 {
     t < 0 && 0 < p || p < 0 && 0 < t
 }
 
+#[tactic(auto, unfolding(crate::specs::Ramp::decelerates))]
 fn decelerates(t: i64, p: i64) -> bool
     requires { BothInside t p }
     ensures { result ≡ Ramps.decelerates t p }
@@ -107,6 +113,7 @@ fn decelerates(t: i64, p: i64) -> bool
     opposite(t, p) || size(t) < size(p)
 }
 
+#[tactic(auto, unfolding(crate::specs::Ramp::distance))]
 fn distance(p: i64, g: i64) -> u64
     requires { BothInside p g }
     ensures { result ≡ Ramps.distance p g }
@@ -114,6 +121,7 @@ fn distance(p: i64, g: i64) -> u64
     size(p - g)
 }
 
+#[tactic(auto, unfolding(crate::specs::Ramp::toward))]
 fn toward(g: i64, m: u64, p: i64) -> i64
     requires { Movable m p }
     ensures { result ≡ Ramps.toward g m p }
@@ -125,6 +133,7 @@ fn toward(g: i64, m: u64, p: i64) -> i64
     }
 }
 
+#[tactic(auto, unfolding(crate::specs::Ramp::moved))]
 fn moved(g: i64, m: u64, p: i64) -> i64
     requires { BothInside p g }
     ensures { result ≡ Ramps.moved g m p }
@@ -149,12 +158,14 @@ fn may_halt(ramp: Ramp) -> bool
     1 < ramp.kind
 }
 
+#[tactic(auto, unfolding(crate::specs::Ramp::halts))]
 fn halts(ramp: Ramp, t: i64, p: i64) -> bool
     ensures { result ≡ Ramps.halts ramp t p }
 {
     opposite(t, p) && may_halt(ramp)
 }
 
+#[tactic(auto, unfolding(crate::specs::Ramp::stop))]
 fn stop(ramp: Ramp, t: i64, p: i64) -> i64
     requires { Inside t }
     ensures value { result ≡ Ramps.stop ramp t p }
@@ -164,6 +175,7 @@ fn stop(ramp: Ramp, t: i64, p: i64) -> i64
 }
 
 // The time is picked first, so that there is one division.
+#[tactic(auto, unfolding(crate::specs::Ramp::stride))]
 fn stride(ramp: Ramp, t: i64, p: i64) -> u64
     requires { Way ramp t p }
     ensures { result ≡ Ramps.stride ramp t p }
@@ -174,6 +186,7 @@ fn stride(ramp: Ramp, t: i64, p: i64) -> u64
     step_of(away_time(ramp, t))
 }
 
+#[tactic(auto, unfolding(crate::specs::Ramp::rounded_up))]
 fn rounded_up(d: u64, s: u64) -> u64
     requires { Steppable d s }
     ensures { result ≡ rounded_up d s }
@@ -181,6 +194,7 @@ fn rounded_up(d: u64, s: u64) -> u64
     (d + (s - 1)) / s
 }
 
+#[tactic(auto, unfolding(crate::specs::Ramp::ticks_to_zero))]
 fn ticks_to_zero(ramp: Ramp, t: i64, p: i64) -> u64
     requires { Way ramp t p }
     ensures { result ≡ ticks_to_zero ramp t p }
@@ -189,6 +203,7 @@ fn ticks_to_zero(ramp: Ramp, t: i64, p: i64) -> u64
 }
 
 // The ticks until the target is met.
+#[tactic(auto, unfolding(crate::specs::Ramp::ticks_to_go))]
 pub fn ticks_to_go(ramp: Ramp, t: i64, p: i64) -> u32
     requires { Way ramp t p }
     ensures { result ≡ ticks_to_go ramp t p }
@@ -207,6 +222,7 @@ pub fn ticks_to_go(ramp: Ramp, t: i64, p: i64) -> u32
 }
 
 // One tick.
+#[tactic(auto, unfolding(crate::specs::Ramp::tick_of))]
 pub fn tick(ramp: Ramp, t: i64, p: i64) -> i64
     requires { Way ramp t p }
     ensures { result ≡ tick_of ramp t p }

@@ -59,6 +59,7 @@ pub fn request_of(bytes: &[u8]) -> Request
 }
 
 // Command, index low first, sub-index, four bytes of a number low first.
+#[tactic(auto, unfolding(crate::specs::Frames::frame_of, coding::specs::Bytes::four_bytes))]
 fn frame_of(command: u8, index: u16, sub: u8, number: u32) -> [u8; 8]
     ensures { result ≡ frame_of command index sub number }
 {
@@ -75,6 +76,7 @@ fn frame_of(command: u8, index: u16, sub: u8, number: u32) -> [u8; 8]
 }
 
 // The eight bytes that ask for an entry.
+#[tactic(auto, unfolding(crate::specs::Frames::read_request))]
 pub fn read_request(index: u16, sub: u8) -> [u8; 8]
     ensures { result ≡ read_request index sub }
 {
@@ -82,6 +84,7 @@ pub fn read_request(index: u16, sub: u8) -> [u8; 8]
 }
 
 // The command byte of a write of so many bytes: 1, 2, 3, and else 4.
+#[tactic(auto, unfolding(crate::specs::Frames::write_command))]
 fn write_command(size: u8) -> u8
     ensures { result ≡ write_command size }
 {
@@ -94,6 +97,7 @@ fn write_command(size: u8) -> u8
 }
 
 // The eight bytes that write so many bytes of a number to an entry.
+#[tactic(auto, unfolding(crate::specs::Frames::write_request))]
 pub fn write_request(index: u16, sub: u8, size: u8, number: u32) -> [u8; 8]
     ensures { result ≡ write_request index sub size number }
 {
@@ -102,6 +106,7 @@ pub fn write_request(index: u16, sub: u8, size: u8, number: u32) -> [u8; 8]
 
 // ---- the service
 
+#[tactic(auto, unfolding(crate::specs::Frames::asks_of))]
 fn asks_of(command: u8) -> Asks
     ensures { result ≡ asks_of command }
 {
@@ -116,6 +121,7 @@ fn asks_of(command: u8) -> Asks
 }
 
 // What becomes of a request.
+#[tactic(auto, unfolding(crate::specs::Serve::decision_on))]
 pub fn decision_on(device: Device, request: Request) -> Decision
     requires { Sound device }
     ensures { result ≡ decision_on device request }
@@ -156,6 +162,7 @@ pub fn answer_to(device: Device, decision: Decision) -> Answer
 
 // ---- replies
 
+#[tactic(auto, unfolding(crate::specs::Frames::read_reply))]
 fn read_reply(size: u8) -> u8
     ensures { result ≡ read_reply size }
 {
@@ -194,6 +201,7 @@ fn reply_of(outcome: Outcome, request: Request) -> [u8; 8]
 }
 
 // The reply of an outcome to a request, where one is due.
+#[tactic(auto, unfolding(crate::specs::Frames::replied_in))]
 pub fn reply(outcome: Outcome, request: Request, room: &mut [u8])
     requires { ReplyRoom room.old }
     ensures { room.new ≡ replied_in outcome request room.old }

@@ -103,6 +103,7 @@ fn both(a: bool, b: bool) -> bool
 }
 
 // A count of one byte and four entries of four bytes.
+#[tactic(auto, unfolding(crate::specs::Words::hold_map))]
 fn hold_map(words: &[i64; WORDS], from: usize) -> bool
     requires { Mapped from }
     ensures { result ≡ hold_map words.now from }
@@ -120,6 +121,7 @@ fn hold_map(words: &[i64; WORDS], from: usize) -> bool
 
 // Each word that stands for a number of one, two or four bytes is one. The words come by value, since an array's length is known of a
 // value alone.
+#[tactic(auto, unfolding(crate::specs::Words::hold_device))]
 pub fn hold_device(words: [i64; WORDS]) -> bool
     ensures { Tested words result }
 {
@@ -136,6 +138,7 @@ pub fn hold_device(words: [i64; WORDS]) -> bool
     both(both(bytes, twos), both(phase, maps))
 }
 
+#[tactic(auto, unfolding(crate::specs::Words::run))]
 fn settings_at(words: &[i64; WORDS], from: usize) -> [i64; SETTINGS]
     requires { Settings from }
     ensures { result ≡ run words.now from SETTINGS }
@@ -149,6 +152,7 @@ fn settings_at(words: &[i64; WORDS], from: usize) -> [i64; SETTINGS]
     settings
 }
 
+#[tactic(auto, unfolding(crate::specs::Words::block_in))]
 fn block_at(words: &[i64; WORDS], from: usize) -> Block
     requires { Blocks from }
     ensures { result ≡ block_in words.now from }
@@ -160,6 +164,7 @@ fn block_at(words: &[i64; WORDS], from: usize) -> Block
     }
 }
 
+#[tactic(auto, unfolding(crate::specs::Words::map_in))]
 fn map_at(words: &[i64; WORDS], from: usize) -> Map
     requires { HeldMap words.now from }
     ensures { result ≡ map_in words.now from }
@@ -175,6 +180,7 @@ fn map_at(words: &[i64; WORDS], from: usize) -> Map
     }
 }
 
+#[tactic(auto, unfolding(crate::specs::Words::dither_in))]
 fn dither_at(words: &[i64; WORDS]) -> Dither
     requires { Held words.now }
     ensures { result ≡ dither_in words.now }
@@ -188,6 +194,7 @@ fn dither_at(words: &[i64; WORDS]) -> Dither
 }
 
 // The device that the words hold.
+#[tactic(auto, unfolding(crate::specs::Words::device_in))]
 pub fn device_in(words: &[i64; WORDS]) -> Device
     requires { Held words.now }
     ensures { result ≡ device_in words.now }
@@ -210,6 +217,7 @@ pub fn device_in(words: &[i64; WORDS]) -> Device
 // ---- storing
 
 // What control words, faults, ticks and jumps can change.
+#[tactic(auto, unfolding(crate::specs::Stored::moved_in))]
 pub fn put_moved(words: &mut [i64; WORDS], device: Device)
     ensures { words.new ≡ moved_in device words.old }
 {
@@ -224,6 +232,7 @@ pub fn put_moved(words: &mut [i64; WORDS], device: Device)
 }
 
 // Where the block of a number begins.
+#[tactic(auto, unfolding(crate::specs::Stored::start_of))]
 fn start_of(words: &[i64; WORDS], which: u8) -> usize
     ensures { Started which words.now result }
 {
@@ -246,6 +255,7 @@ fn put_settings(words: &mut [i64; WORDS], from: usize, settings: [i64; SETTINGS]
     }
 }
 
+#[tactic(auto, unfolding(crate::specs::Stored::block_put))]
 fn put_block(words: &mut [i64; WORDS], from: usize, block: Block)
     requires { Blocks from }
     ensures { words.new ≡ block_put from block words.old }
@@ -259,6 +269,7 @@ fn put_block(words: &mut [i64; WORDS], from: usize, block: Block)
 }
 
 // What a received PDO can change beside what moves: the set points of the position block.
+#[tactic(auto, unfolding(crate::specs::Stored::set_points_in))]
 pub fn put_set_points(words: &mut [i64; WORDS], device: Device)
     ensures { words.new ≡ set_points_in device words.old }
 {
@@ -270,6 +281,7 @@ pub fn put_set_points(words: &mut [i64; WORDS], device: Device)
 }
 
 // What a load can change: the position block.
+#[tactic(auto, unfolding(crate::specs::Stored::position_block_in))]
 pub fn put_position_block(words: &mut [i64; WORDS], device: Device)
     ensures { words.new ≡ position_block_in device words.old }
 {
@@ -279,6 +291,7 @@ pub fn put_position_block(words: &mut [i64; WORDS], device: Device)
 }
 
 // A fresh device: two fresh blocks, of which the position block is selected, and else all zeros.
+#[tactic(auto, unfolding(crate::specs::Words::words_of, crate::specs::Stored::block_put, device::specs::Device::fresh_device, block::specs::Block::fresh_block, mapping::specs::Maps::fresh_map, mapping::specs::Maps::fresh_maps, dither::specs::Dither::fresh_dither, objects::specs::Table::objects))]
 pub fn put_fresh(words: &mut [i64; WORDS])
     ensures { words.new ≡ words_of fresh_device }
 {
@@ -289,6 +302,7 @@ pub fn put_fresh(words: &mut [i64; WORDS])
 }
 
 // The block of a number is selected: where it is the other one, the two change places.
+#[tactic(auto, unfolding(crate::specs::Stored::selected_in))]
 fn put_selected(words: &mut [i64; WORDS], which: u8)
     ensures { words.new ≡ selected_in which words.old }
 {
@@ -303,6 +317,7 @@ fn put_selected(words: &mut [i64; WORDS], which: u8)
 }
 
 // The word of a value that has one of its own: a setting, a value of the dither, what stands in a map, a set point.
+#[tactic(auto, unfolding(crate::specs::Stored::word_of))]
 fn word_of(start: usize, place: usize) -> usize
     requires { OneWord start place }
     ensures { Standing start place result }
@@ -317,6 +332,7 @@ fn word_of(start: usize, place: usize) -> usize
 }
 
 // A control word finds the device that the words hold.
+#[tactic(auto, unfolding(crate::specs::Stored::controlled_in))]
 fn put_controlled(words: &mut [i64; WORDS], word: u16)
     requires { Held words.old }
     ensures { words.new ≡ controlled_in word words.old }
@@ -326,6 +342,7 @@ fn put_controlled(words: &mut [i64; WORDS], word: u16)
 }
 
 // An accepted write of a value to a place of a block.
+#[tactic(auto, unfolding(crate::specs::Stored::written_in))]
 fn put_written(words: &mut [i64; WORDS], which: u8, place: usize, value: i64)
     requires { Written words.old place value }
     ensures { words.new ≡ written_in which place value words.old }

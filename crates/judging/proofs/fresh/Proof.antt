@@ -1,7 +1,0 @@
--- The device is the fresh one.
-use borrow.Author.Rules.{rules}
-use Rattle.judging.proofs.fresh.Statement.{statement}
-use Rattle.judging.proofs.fresh.Tie as tie
-
-pub fresh_spec : {M : Type 1} → statement M
-fresh_spec = tie.close (tie.spec (λ c κs. search rules) (λ c. rw c.fresh.ensures.result))
