@@ -164,25 +164,25 @@ module _ (L : Library) (p : Promises L) (s : L.State) (e : sound (L.told s) ≡ 
 
   -- in HOLD and ACTIVE
   module _ (k : driven t.state ≡ true) where
-    to_go : to_go L s ≡ Ramp.ticks_to_go r g t.position
-    to_go = to_go_told ∙ to_go_is t k
+    to_go_lem : to_go L s ≡ Ramp.ticks_to_go r g t.position
+    to_go_lem = to_go_told ∙ to_go_is t k
 
     after_ticks : (n : ℕ) → position_at L n s ≡ Ramp.position_after r g t.position n
     after_ticks n = position_is n ∙ formula_is t k n
 
     kept : (n : ℕ) → to_go L s ≤ n → position_at L n s ≡ goal L s
-    kept n h = let f = to_go in after_ticks n ∙ of_ramp.kept n (omega arith) ∙ sym goal_is
+    kept n h = let f = to_go_lem in after_ticks n ∙ of_ramp.kept n (omega arith) ∙ sym goal_is
 
     early : (n : ℕ) → n < to_go L s → position_at L n s ≢ goal L s
-    early n h m = let f = to_go in of_ramp.first n (omega arith) (sym (after_ticks n) ∙ m ∙ goal_is)
+    early n h m = let f = to_go_lem in of_ramp.first n (omega arith) (sym (after_ticks n) ∙ m ∙ goal_is)
 
     once_driven : (m n : ℕ) → m < n → n ≤ to_go L s → position_at L m s ≢ position_at L n s
-    once_driven m n l h q = let f = to_go in of_ramp.once m n l (omega arith) (sym (after_ticks m) ∙ q ∙ after_ticks n)
+    once_driven m n l h q = let f = to_go_lem in of_ramp.once m n l (omega arith) (sym (after_ticks m) ∙ q ∙ after_ticks n)
 
     whole_distance : ramp_type t ≡ pos 1 → to_go L s ≡ rounded_up (nat_abs (position_at L 0 s -ℤ goal L s)) (one_step t)
     unfolding rounded_up Ramp.rounded_up distance step_of Ramp.step_of
     whole_distance one =
-        to_go ∙ of_ramp.ticks_in_type_one one ∙ ap₂ (λ a b. rounded_up (nat_abs (a -ℤ b)) (one_step t)) (sym here) (sym goal_is)
+        to_go_lem ∙ of_ramp.ticks_in_type_one one ∙ ap₂ (λ a b. rounded_up (nat_abs (a -ℤ b)) (one_step t)) (sym here) (sym goal_is)
 
     whole_steps : ramp_type t ≡ pos 1 → (n : ℕ) → position_at L n s ≡ stepped (goal L s) (n * one_step t) (position_at L 0 s)
     unfolding step_of Ramp.step_of
@@ -220,11 +220,11 @@ module _ (L : Library) (p : Promises L) (s : L.State) (e : sound (L.told s) ≡ 
     uncrossed_rest n = ap₂ opposite (stays n) (stays (suc n))
 
   latest : to_go L s ≤ 7206322
-  latest = by_cases (driven t.state) (λ k. rw (to_go k) of_ramp.latest) (λ k. rw (none_to_go k) (omega arith))
+  latest = by_cases (driven t.state) (λ k. rw (to_go_lem k) of_ramp.latest) (λ k. rw (none_to_go k) (omega arith))
 
   latest_in_type_one : ramp_type t ≡ pos 1 → to_go L s ≤ 7206321
   latest_in_type_one one =
-      by_cases (driven t.state) (λ k. rw (to_go k) (of_ramp.latest_in_type_one one)) (λ k. rw (none_to_go k) (omega arith))
+      by_cases (driven t.state) (λ k. rw (to_go_lem k) (of_ramp.latest_in_type_one one)) (λ k. rw (none_to_go k) (omega arith))
 
   once : (m n : ℕ) → m < n → n ≤ to_go L s → position_at L m s ≢ position_at L n s
   once m n l h =
