@@ -1,5 +1,5 @@
 -- Demand 3, of a ramp r with the target t, from the position p.
-use Rattle.std.specs.Prelude.{true, false, ◌≢◌, ◌≡◌, ℕ, suc, ◌+◌, ◌*◌, ◌≤◌, ◌<◌, ℤ, pos}
+use Rattle.std.specs.Prelude.{false, ◌≢◌, ◌≡◌, ℕ, suc, ◌+◌, ◌*◌, ◌≤◌, ◌<◌, ℤ, pos}
 use Rattle.ramp.specs.Ramp.{step_of, opposite, distance, moved, ticked, rounded_up, ticks_to_go, position_after, Inside}
 use Rattle.ramp.specs.declared.Ramp.{Ramp}
 

@@ -1,7 +1,7 @@
 -- Each test, distance and step is the definition's, and so are the ticks, by the laws of the two ways. They are few enough for 32 bits.
 use Rattle.std.proofs.Common.{sym, arith}
 use mir.Facts.{to_z-of_z}
-use Rattle.ramp.proofs.Bounds.{zero_inside, way_on, steppable}
+use Rattle.ramp.proofs.Bounds.{way_on, steppable}
 use Rattle.ramp.proofs.Formula.{ticks_straight, ticks_halting, latest}
 use Rattle.ramp.proofs.ticks_to_go.Goals as goal
 
