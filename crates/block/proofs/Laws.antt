@@ -13,7 +13,7 @@ use Rattle.integers.specs.Range.{Within}
 use Rattle.integers.proofs.Linear.{ints}
 use Rattle.integers.proofs.Cases.{by_test}
 use Rattle.integers.proofs.Range.{wider, fits, over, plus, less, times, size, exactly}
-use Rattle.objects.specs.Numbers.{FULL_STROKE, FULL_POSITION, PARTS}
+use Rattle.objects.specs.Numbers.{FULL_STROKE, PARTS}
 use Rattle.objects.specs.Places.{SETTINGS, SET_POINT, HOLD_SET_POINT, UPPER_LIMIT, LOWER_LIMIT, SCALING_FACTOR, SCALING_OFFSET, ZERO_CORRECTION, RAMP_TYPE, ACCELERATION, ACCELERATION_POSITIVE, ACCELERATION_NEGATIVE, DECELERATION, DECELERATION_POSITIVE, DECELERATION_NEGATIVE, DEAD_BAND_TYPE, A_SIDE, B_SIDE, THRESHOLD}
 use Rattle.objects.specs.Table.{objects, InRange}
 use Rattle.ramp.specs.declared.Ramp.{Ramp}
