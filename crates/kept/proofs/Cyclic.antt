@@ -53,9 +53,9 @@ acted_told s e pdo two = rw two (unfold Sdo.sent_by in write_told s 0x2B (e / 65
 
 entries_told : {d : Device} → Sound d → (entries pdo : List ℕ) → OfEach (λ e. bytes_of e ≡ 2) entries → told_of (received entries pdo d) ≡ Sdo.received entries pdo (told_of d)
 unfolding received Sdo.received
-entries_told s [] pdo h = refl
-entries_told s (e ∷ entries) pdo h =
-    rw h.0 (entries_told (acted_sound e pdo s) entries (drop 2 pdo) h.1) ∙ ap (Sdo.received entries (drop 2 pdo)) (acted_told s e pdo h.0)
+entries_told {d = d} s [] pdo h = refl
+entries_told {d = d} s (e ∷ entries) pdo h =
+    rw h.0 (entries_told {d = acted e pdo d} (acted_sound e pdo s) entries (drop 2 pdo) h.1) ∙ ap (Sdo.received entries (drop 2 pdo)) (acted_told s e pdo h.0)
 
 module _ {d : Device} (s : Sound d) where
   -- the maps, as they are told
