@@ -359,7 +359,7 @@ pub fn fault(device: Device, code: u16) -> Device
 // ---- ticks and jumps
 
 // One tick.
-#[tactic(auto, unfolding(crate::specs::Events::tick_device))]
+#[tactic(auto, using(crate::proofs::Laws::block_of_sound, crate::proofs::Laws::dither_of_sound), unfolding(crate::specs::Events::tick_device))]
 pub fn tick(device: Device) -> Device
     requires { Sound device }
     ensures { result ≡ tick_device device }
@@ -377,7 +377,7 @@ pub fn tick(device: Device) -> Device
 }
 
 // n ticks at once.
-#[tactic(auto, unfolding(crate::specs::Events::jump_device))]
+#[tactic(auto, using(crate::proofs::Laws::block_of_sound, crate::proofs::Laws::dither_of_sound), unfolding(crate::specs::Events::jump_device))]
 pub fn jump(device: Device, n: u32) -> Device
     requires { Sound device }
     ensures { result ≡ jump_device n device }
@@ -397,7 +397,7 @@ pub fn jump(device: Device, n: u32) -> Device
 // ---- queries
 
 // The ticks until the target is met: none in DISABLED and FAULT.
-#[tactic(auto, unfolding(crate::specs::Queries::device_ticks_to_go))]
+#[tactic(auto, using(crate::proofs::Laws::block_of_sound), unfolding(crate::specs::Queries::device_ticks_to_go))]
 pub fn ticks_to_go(device: Device) -> u32
     requires { Sound device }
     ensures { result ≡ device_ticks_to_go device }
@@ -411,7 +411,7 @@ pub fn ticks_to_go(device: Device) -> u32
 }
 
 // The target in ir.
-#[tactic(auto, unfolding(crate::specs::Queries::device_target))]
+#[tactic(auto, using(crate::proofs::Laws::block_of_sound), unfolding(crate::specs::Queries::device_target))]
 pub fn target(device: Device) -> i64
     requires { Sound device }
     ensures { result ≡ device_target device }
@@ -446,7 +446,7 @@ pub fn command_of(device: Device, which: u8) -> i64
 }
 
 // 256 while a driven valve is at its target.
-#[tactic(auto, unfolding(crate::specs::Queries::target_met))]
+#[tactic(auto, using(crate::proofs::Laws::block_of_sound), unfolding(crate::specs::Queries::target_met))]
 fn target_met(device: Device) -> u16
     requires { Sound device }
     ensures { result ≡ target_met device }
@@ -460,7 +460,7 @@ fn target_met(device: Device) -> u16
 }
 
 // The status word.
-#[tactic(auto, unfolding(crate::specs::Queries::status_of))]
+#[tactic(auto, using(crate::proofs::Laws::met_most), unfolding(crate::specs::Queries::status_of))]
 pub fn status(device: Device) -> u16
     requires { Sound device }
     ensures { result ≡ status_of device }
