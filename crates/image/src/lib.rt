@@ -65,7 +65,7 @@ fn field_length(place: usize) -> usize
 }
 
 // The image of sound settings goes to the first bytes of the room; later bytes stay.
-#[tactic(auto, unfolding(crate::specs::Fields::start, crate::specs::Fields::fields, crate::specs::Fields::image_of, crate::specs::Fields::stored_in))]
+#[tactic(auto, using(crate::proofs::Lengths::next_starts), unfolding(crate::specs::Fields::start, crate::specs::Fields::fields))]
 pub fn store(settings: [i64; SETTINGS], room: &mut [u8])
     requires { Storing settings room.old }
     ensures { room.new ≡ stored_in settings room.old }
@@ -83,7 +83,7 @@ pub fn store(settings: [i64; SETTINGS], room: &mut [u8])
 // ---- loading
 
 // The header of the field of a place, which starts there: its tag, and the length of its type.
-#[tactic(auto, unfolding(crate::specs::Load::head_at))]
+#[tactic(auto, using(crate::proofs::Lengths::next_starts), unfolding(crate::specs::Load::head_at))]
 fn head_at(image: &[u8], from: usize, place: usize) -> bool
     requires { Starts from place }
     ensures { result ≡ head_at image.now place }
@@ -97,7 +97,7 @@ fn head_at(image: &[u8], from: usize, place: usize) -> bool
 }
 
 // Each tag once, ascending, with the length of its type, and no more.
-#[tactic(auto, unfolding(crate::specs::Fields::start))]
+#[tactic(auto, using(crate::proofs::Lengths::next_starts))]
 pub fn is_full(image: &[u8]) -> bool
     ensures { result ≡ is_full image.now }
 {
@@ -130,7 +130,7 @@ fn four_at(image: &[u8], k: usize) -> u32
 }
 
 // The value in the field of a place, which starts there.
-#[tactic(auto, unfolding(crate::specs::Load::value_in_image))]
+#[tactic(auto, using(crate::proofs::Lengths::next_starts), unfolding(crate::specs::Load::value_in_image))]
 fn value_in(image: &[u8], from: usize, place: usize) -> i64
     requires { Starts from place }
     ensures { result ≡ value_in_image image.now place }
@@ -140,7 +140,7 @@ fn value_in(image: &[u8], from: usize, place: usize) -> i64
 }
 
 // The settings in an image, sound or not.
-#[tactic(auto, unfolding(crate::specs::Fields::start, crate::specs::Load::values_in))]
+#[tactic(auto, using(crate::proofs::Lengths::next_starts), unfolding(crate::specs::Fields::start, crate::specs::Load::values_in))]
 pub fn settings_in(image: &[u8]) -> [i64; SETTINGS]
     ensures { result ≡ settings_in image.now }
 {
@@ -183,8 +183,8 @@ pub fn locate(image: &[u8], tag: u8) -> Found
 
 // The value bytes of the first field so tagged, as a part of the caller's own slice; empty where there is none.
 pub fn find(image: &[u8], tag: u8) -> &[u8]
-    ensures result_value { result.now ≡ part_of image.now (walk image.now tag) }
-    ensures ref_ptr_value { (result.ref_ptr.0 ≡ image.entry.ref_ptr.0) × (result.ref_ptr.1 ≡ image.entry.ref_ptr.1 + begin_of (walk image.now tag)) }
+    ensures part { result.now ≡ part_of image.now (walk image.now tag) }
+    ensures begins { (result.ref_ptr.0 ≡ image.entry.ref_ptr.0) × (result.ref_ptr.1 ≡ image.entry.ref_ptr.1 + begin_of (walk image.now tag)) }
 {
     match locate(image, tag) {
         Found::Part { from, end } => &image[from..end],
