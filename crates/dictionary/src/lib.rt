@@ -135,7 +135,7 @@ fn read_value(device: Device, which: u8, place: usize, row: Row) -> Decision
 }
 
 // What becomes of a read of an index and a sub-index. The row is looked up and handed on.
-#[tactic(auto, unfolding(crate::specs::Named::named, crate::specs::Decide::read_decision, crate::specs::Decide::read_of))]
+#[tactic(auto, using(objects::proofs::Rules::found_below, objects::proofs::Rules::value_below), unfolding(crate::specs::Named::named, crate::specs::Decide::read_decision, crate::specs::Decide::read_of))]
 pub fn decide_read(device: Device, index: u16, sub: u8) -> Decision
     requires { Sound device }
     ensures { result ≡ read_decision device index sub }
@@ -269,7 +269,7 @@ fn write_value(device: Device, which: u8, place: usize, row: Row, size: u8, numb
 }
 
 // What becomes of a write to an index and a sub-index. The row is looked up and handed on.
-#[tactic(auto, unfolding(crate::specs::Named::named, crate::specs::Decide::write_decision, crate::specs::Decide::write_of))]
+#[tactic(auto, using(objects::proofs::Rules::found_below, objects::proofs::Rules::value_below), unfolding(crate::specs::Named::named, crate::specs::Decide::write_decision, crate::specs::Decide::write_of))]
 pub fn decide_write(device: Device, index: u16, sub: u8, size: u8, number: u32) -> Decision
     requires { Sound device }
     ensures { result ≡ write_decision device index sub size number }
