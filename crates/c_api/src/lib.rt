@@ -1,6 +1,6 @@
 #![tactic(auto)]
-// Rainsheave for C: every public call with C linkage, as include/rainsheave.h declares them. A device is words of 64 bits behind a
-// pointer. Words that hold no device are refused as an unsound device is. Refused, a call stores nothing.
+// Rainsheave for C: every public call as include/rainsheave.h declares it; `c_api_c` exports them under these names. A device is words of
+// 64 bits behind a pointer. Words that hold no device are refused as an unsound device is. Refused, a call stores nothing.
 ghost use Rattle.std.specs.Prelude.{◌≡◌, pos};
 ghost use Rattle.device.specs.Queries.{status_of, device_target, device_command, device_ticks_to_go};
 ghost use Rattle.rainsheave.specs.Numbers.{UNSOUND};
@@ -49,15 +49,13 @@ pub struct Part {
 
 // ---- fresh, and requests
 
-#[unsafe(no_mangle)]
-pub extern "C" fn rainsheave_fresh(device: &mut [i64; WORDS])
+pub fn rainsheave_fresh(device: &mut [i64; WORDS])
     ensures { FreshIs device.new }
 {
     words::put_fresh(device);
 }
 
-#[unsafe(no_mangle)]
-pub extern "C" fn rainsheave_sdo(device: &mut [i64; WORDS], request: &[u8], reply: &mut [u8]) -> u8
+pub fn rainsheave_sdo(device: &mut [i64; WORDS], request: &[u8], reply: &mut [u8]) -> u8
     ensures { SdoIs request.now device.old device.new reply.old reply.new result }
 {
     let words = *device;
@@ -73,15 +71,13 @@ pub extern "C" fn rainsheave_sdo(device: &mut [i64; WORDS], request: &[u8], repl
     }
 }
 
-#[unsafe(no_mangle)]
-pub extern "C" fn rainsheave_read_request(request: &mut [u8; FRAME], index: u16, sub_index: u8)
+pub fn rainsheave_read_request(request: &mut [u8; FRAME], index: u16, sub_index: u8)
     ensures { ReadRequestIs index sub_index request.new }
 {
     *request = rainsheave::read_request(index, sub_index);
 }
 
-#[unsafe(no_mangle)]
-pub extern "C" fn rainsheave_write_request(
+pub fn rainsheave_write_request(
     request: &mut [u8; FRAME],
     index: u16,
     sub_index: u8,
@@ -111,8 +107,7 @@ fn moved_by(device: &mut [i64; WORDS], change: Change) -> u8
     }
 }
 
-#[unsafe(no_mangle)]
-pub extern "C" fn rainsheave_control(device: &mut [i64; WORDS], word: u16) -> u8
+pub fn rainsheave_control(device: &mut [i64; WORDS], word: u16) -> u8
     ensures { ChangeIs (λ d. control_answer d word) device.old device.new result }
 {
     let words = *device;
@@ -123,8 +118,7 @@ pub extern "C" fn rainsheave_control(device: &mut [i64; WORDS], word: u16) -> u8
     moved_by(device, change)
 }
 
-#[unsafe(no_mangle)]
-pub extern "C" fn rainsheave_fault(device: &mut [i64; WORDS], code: u16) -> u8
+pub fn rainsheave_fault(device: &mut [i64; WORDS], code: u16) -> u8
     ensures { ChangeIs (λ d. fault_answer d code) device.old device.new result }
 {
     let words = *device;
@@ -135,8 +129,7 @@ pub extern "C" fn rainsheave_fault(device: &mut [i64; WORDS], code: u16) -> u8
     moved_by(device, change)
 }
 
-#[unsafe(no_mangle)]
-pub extern "C" fn rainsheave_tick(device: &mut [i64; WORDS]) -> u8
+pub fn rainsheave_tick(device: &mut [i64; WORDS]) -> u8
     ensures { ChangeIs tick_answer device.old device.new result }
 {
     let words = *device;
@@ -147,8 +140,7 @@ pub extern "C" fn rainsheave_tick(device: &mut [i64; WORDS]) -> u8
     moved_by(device, change)
 }
 
-#[unsafe(no_mangle)]
-pub extern "C" fn rainsheave_jump(device: &mut [i64; WORDS], ticks: u32) -> u8
+pub fn rainsheave_jump(device: &mut [i64; WORDS], ticks: u32) -> u8
     ensures { ChangeIs (λ d. jump_answer d ticks) device.old device.new result }
 {
     let words = *device;
@@ -170,8 +162,7 @@ fn not_told() -> Reading
     }
 }
 
-#[unsafe(no_mangle)]
-pub extern "C" fn rainsheave_state(device: &[i64; WORDS]) -> Reading
+pub fn rainsheave_state(device: &[i64; WORDS]) -> Reading
     ensures { QueryIs (λ d. pos d.state) device.now result }
 {
     let words = *device;
@@ -182,8 +173,7 @@ pub extern "C" fn rainsheave_state(device: &[i64; WORDS]) -> Reading
     }
 }
 
-#[unsafe(no_mangle)]
-pub extern "C" fn rainsheave_status(device: &[i64; WORDS]) -> Reading
+pub fn rainsheave_status(device: &[i64; WORDS]) -> Reading
     ensures { QueryIs (λ d. pos (status_of d)) device.now result }
 {
     let words = *device;
@@ -194,8 +184,7 @@ pub extern "C" fn rainsheave_status(device: &[i64; WORDS]) -> Reading
     }
 }
 
-#[unsafe(no_mangle)]
-pub extern "C" fn rainsheave_error(device: &[i64; WORDS]) -> Reading
+pub fn rainsheave_error(device: &[i64; WORDS]) -> Reading
     ensures { QueryIs (λ d. pos d.error) device.now result }
 {
     let words = *device;
@@ -206,8 +195,7 @@ pub extern "C" fn rainsheave_error(device: &[i64; WORDS]) -> Reading
     }
 }
 
-#[unsafe(no_mangle)]
-pub extern "C" fn rainsheave_position(device: &[i64; WORDS]) -> Reading
+pub fn rainsheave_position(device: &[i64; WORDS]) -> Reading
     ensures { QueryIs (λ d. d.block.position) device.now result }
 {
     let words = *device;
@@ -218,8 +206,7 @@ pub extern "C" fn rainsheave_position(device: &[i64; WORDS]) -> Reading
     }
 }
 
-#[unsafe(no_mangle)]
-pub extern "C" fn rainsheave_target(device: &[i64; WORDS]) -> Reading
+pub fn rainsheave_target(device: &[i64; WORDS]) -> Reading
     ensures { QueryIs (λ d. device_target d) device.now result }
 {
     let words = *device;
@@ -230,8 +217,7 @@ pub extern "C" fn rainsheave_target(device: &[i64; WORDS]) -> Reading
     }
 }
 
-#[unsafe(no_mangle)]
-pub extern "C" fn rainsheave_command(device: &[i64; WORDS]) -> Reading
+pub fn rainsheave_command(device: &[i64; WORDS]) -> Reading
     ensures { QueryIs (λ d. device_command d) device.now result }
 {
     let words = *device;
@@ -242,8 +228,7 @@ pub extern "C" fn rainsheave_command(device: &[i64; WORDS]) -> Reading
     }
 }
 
-#[unsafe(no_mangle)]
-pub extern "C" fn rainsheave_ticks_to_go(device: &[i64; WORDS]) -> Reading
+pub fn rainsheave_ticks_to_go(device: &[i64; WORDS]) -> Reading
     ensures { QueryIs (λ d. pos (device_ticks_to_go d)) device.now result }
 {
     let words = *device;
@@ -273,8 +258,7 @@ fn received_by(device: &mut [i64; WORDS], change: Change) -> u8
     }
 }
 
-#[unsafe(no_mangle)]
-pub extern "C" fn rainsheave_receive(device: &mut [i64; WORDS], pdo: &[u8]) -> u8
+pub fn rainsheave_receive(device: &mut [i64; WORDS], pdo: &[u8]) -> u8
     ensures { ChangeIs (λ d. receive_answer d pdo.now) device.old device.new result }
 {
     let words = *device;
@@ -285,8 +269,7 @@ pub extern "C" fn rainsheave_receive(device: &mut [i64; WORDS], pdo: &[u8]) -> u
     received_by(device, change)
 }
 
-#[unsafe(no_mangle)]
-pub extern "C" fn rainsheave_send(device: &[i64; WORDS], room: &mut [u8]) -> Sent
+pub fn rainsheave_send(device: &[i64; WORDS], room: &mut [u8]) -> Sent
     ensures { SendIs device.now room.old room.new result }
 {
     let words = *device;
@@ -306,8 +289,7 @@ pub extern "C" fn rainsheave_send(device: &[i64; WORDS], room: &mut [u8]) -> Sen
 
 // ---- the stored image
 
-#[unsafe(no_mangle)]
-pub extern "C" fn rainsheave_store(device: &[i64; WORDS], room: &mut [u8]) -> u8
+pub fn rainsheave_store(device: &[i64; WORDS], room: &mut [u8]) -> u8
     ensures { StoreIs device.now room.old room.new result }
 {
     let words = *device;
@@ -335,8 +317,7 @@ fn loaded_by(device: &mut [i64; WORDS], change: Change) -> u8
     }
 }
 
-#[unsafe(no_mangle)]
-pub extern "C" fn rainsheave_load(device: &mut [i64; WORDS], image: &[u8]) -> u8
+pub fn rainsheave_load(device: &mut [i64; WORDS], image: &[u8]) -> u8
     ensures { ChangeIs (λ d. load_answer d image.now) device.old device.new result }
 {
     let words = *device;
@@ -357,8 +338,7 @@ fn not_found(number: u8) -> Part
     }
 }
 
-#[unsafe(no_mangle)]
-pub extern "C" fn rainsheave_find(image: &[u8], tag: u8) -> Part
+pub fn rainsheave_find(image: &[u8], tag: u8) -> Part
     ensures { FindIs image.now tag result }
 {
     match image::locate(image, tag) {
@@ -372,8 +352,7 @@ pub extern "C" fn rainsheave_find(image: &[u8], tag: u8) -> Part
     }
 }
 
-#[unsafe(no_mangle)]
-pub extern "C" fn rainsheave_find_code(image: &[u8], tag: u8) -> u8
+pub fn rainsheave_find_code(image: &[u8], tag: u8) -> u8
     ensures { FindCodeIs image.now tag result }
 {
     rainsheave::find_code(image, tag)
