@@ -5,7 +5,8 @@ ghost use Rattle.std.specs.Prelude.{◌≡◌, ◌&&◌, pos};
 ghost use Rattle.std.proofs.lemmas.List.Edits.{sets};
 ghost use Rattle.objects.specs.Places.{SETTINGS};
 ghost use Rattle.device.specs.Device.{fresh_device};
-ghost use Rattle.words.specs.Words.{ONE_BYTE, TWO_BYTES, FOUR_BYTES, is_number, number, run, hold_map, block_in, map_in, dither_in, device_in, words_of};
+ghost use Rattle.words.specs.Words.{is_number, number, run, hold_map, block_in, map_in, dither_in, device_in, words_of};
+ghost use Rattle.words.specs.Words as Words;
 ghost use Rattle.words.specs.Stored.{
   moved_in,
   block_put,
@@ -54,21 +55,21 @@ fn is_number(words: &[i64; WORDS], k: usize, most: i64) -> bool
 
 // The word at a place as a number of one, two or four bytes.
 fn byte_at(words: &[i64; WORDS], k: usize) -> u8
-    requires { Number words.now k (pos ONE_BYTE) }
+    requires { Number words.now k (pos Words.ONE_BYTE) }
     ensures { result ≡ number words.now k }
 {
     words[k] as u8
 }
 
 fn two_at(words: &[i64; WORDS], k: usize) -> u16
-    requires { Number words.now k (pos TWO_BYTES) }
+    requires { Number words.now k (pos Words.TWO_BYTES) }
     ensures { result ≡ number words.now k }
 {
     words[k] as u16
 }
 
 fn four_at(words: &[i64; WORDS], k: usize) -> u32
-    requires { Number words.now k (pos FOUR_BYTES) }
+    requires { Number words.now k (pos Words.FOUR_BYTES) }
     ensures { result ≡ number words.now k }
 {
     words[k] as u32
