@@ -4,7 +4,7 @@ ghost use Rattle.std.specs.Prelude.{◌≡◌, ◌&&◌};
 ghost use Rattle.integers.specs.Words.{◌=?◌, ◌≤?◌};
 ghost use Rattle.objects.specs.Table.{row_at, in_row};
 ghost use Rattle.objects.specs.Asked.{InTable};
-ghost use Rattle.objects.specs.Places.{UPPER_LIMIT, LOWER_LIMIT};
+ghost use Rattle.objects.specs.Places as Places;
 ghost use Rattle.block.specs.Block.{at, setting, at_position, with_setpoint, with_setting, with_settings, fresh_block};
 ghost use Rattle.block.specs.Target.{input_of, clamp_to, clamp_to_stroke, scaled_by, target_from, target_of, target_position};
 ghost use Rattle.block.specs.Command.{whole_of, banded_by, banded_of, command_of};
@@ -231,7 +231,7 @@ fn are_in_range(place: usize, x: i64, y: i64) -> bool
 
 // The lower limit is not above the upper one.
 fn are_limits_sound(settings: [i64; SETTINGS]) -> bool
-    ensures { result ≡ (at settings LOWER_LIMIT ≤? at settings UPPER_LIMIT) }
+    ensures { result ≡ (at settings Places.LOWER_LIMIT ≤? at settings Places.UPPER_LIMIT) }
 {
     settings[LOWER_LIMIT] <= settings[UPPER_LIMIT]
 }

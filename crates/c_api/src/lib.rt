@@ -3,7 +3,7 @@
 // 64 bits behind a pointer. Words that hold no device are refused as an unsound device is. Refused, a call stores nothing.
 ghost use Rattle.std.specs.Prelude.{◌≡◌, pos};
 ghost use Rattle.device.specs.Queries.{status_of, device_target, device_command, device_ticks_to_go};
-ghost use Rattle.rainsheave.specs.Numbers.{UNSOUND};
+ghost use Rattle.rainsheave.specs.Numbers as Numbers;
 ghost use Rattle.rainsheave.specs.Calls.{control_answer, fault_answer, tick_answer, jump_answer, receive_answer, load_answer};
 ghost use Rattle.rainsheave.specs.Fixed.{FindCodeIs};
 ghost use Rattle.c_api.specs.Exported.{
@@ -154,7 +154,7 @@ pub fn rainsheave_jump(device: &mut [i64; WORDS], ticks: u32) -> u8
 // ---- queries
 
 fn not_told() -> Reading
-    ensures { result ≡ record { value = pos 0; number = UNSOUND } }
+    ensures { result ≡ record { value = pos 0; number = Numbers.UNSOUND } }
 {
     Reading {
         value: 0,

@@ -3,7 +3,7 @@
 // those words are stored that the change can alter.
 ghost use Rattle.std.specs.Prelude.{◌≡◌, ◌&&◌, pos};
 ghost use Rattle.std.proofs.lemmas.List.Edits.{sets};
-ghost use Rattle.objects.specs.Places.{SETTINGS};
+ghost use Rattle.objects.specs.Places as Places;
 ghost use Rattle.device.specs.Device.{fresh_device};
 ghost use Rattle.words.specs.Words.{is_number, number, run, hold_map, block_in, map_in, dither_in, device_in, words_of};
 ghost use Rattle.words.specs.Words as Words;
@@ -142,7 +142,7 @@ pub fn hold_device(words: [i64; WORDS]) -> bool
 #[tactic(auto, unfolding(crate::specs::Words::run))]
 fn settings_at(words: &[i64; WORDS], from: usize) -> [i64; SETTINGS]
     requires { Settings from }
-    ensures { result ≡ run words.now from SETTINGS }
+    ensures { result ≡ run words.now from Places.SETTINGS }
 {
     let mut settings = [0i64; SETTINGS];
     let mut k = 0;
