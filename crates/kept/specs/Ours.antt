@@ -11,7 +11,8 @@ use Rattle.device.specs.declared.Device.{Device}
 use Rattle.dictionary.specs.Named.{Named, value, byte, nothing, named}
 use Rattle.dictionary.specs.Values.{value_at}
 use Rattle.sdo.specs.Frames.{number_handed_back}
-use Rattle.rainsheave.specs.Calls.{sdo_answer, sdo_room, control_answer, fault_answer, tick_answer, jump_answer, query_answer}
+use Rattle.rainsheave.specs.Calls.{sdo_answer, sdo_room, control_answer, fault_answer, tick_answer, jump_answer}
+use Rattle.rainsheave.specs.Calls.{query_answer}
 use Rattle.rainsheave.specs.Calls.{receive_answer, send_answer, send_room, store_answer, store_room, load_answer}
 use Rattle.rainsheave.specs.Calls.{number_of_report}
 use Rattle.rainsheave.specs.declared.Change.{Change}

@@ -59,7 +59,9 @@ pub record Ships (words after : List ℤ) (room left : List ℕ) (r : ℕ) : Typ
   pub find :
       (image : List ℕ) (tag begin long : ℕ) → FindIs image tag (record { begin = begin; length = long; number = r }) →
       Leaves (Asked.search image tag) words words (found r begin (take long (drop begin image)))
-  pub code : (image : List ℕ) (n : ℕ) → FindCodeIs image n r → (answer_in_c (Asked.search image n) words).reply.number ≡ r
+  pub code :
+      (image : List ℕ) (n : ℕ) → FindCodeIs image n r
+      → (answer_in_c (Asked.search image n) words).reply.number ≡ r
 
 abbrev pub Shipped : Type 0
 Shipped = (words after : List ℤ) (room left : List ℕ) (r : ℕ) → length words ≡ WORDS → Ships words after room left r

@@ -1,6 +1,7 @@
 -- Histories of calls, and wishes 1, 2 and 4 of document 02, of any library that keeps the promises: what follows from
 -- the rules and is not said there outright.
-use Rattle.std.specs.Prelude.{Bool, true, false, not, ◌&&◌, List, [], ◌∷◌, ◌++◌, map, ◌≢◌, ◌≡◌, ℕ, ◌+◌, ◌*◌, ◌/◌, ◌%◌, ◌≤◌, pos, neg_ℤ, nat_abs, replicate, drop}
+use Rattle.std.specs.Prelude.{Bool, true, false, not, ◌&&◌, List, [], ◌∷◌, ◌++◌, map, ◌≢◌, ◌≡◌, ℕ, ◌+◌, ◌*◌, ◌/◌, ◌%◌}
+use Rattle.std.specs.Prelude.{◌≤◌, pos, neg_ℤ, nat_abs, replicate, drop}
 use Rattle.integers.specs.Words.{each, ◌is◌, ◌among◌}
 use Rattle.integers.specs.Range.{Within}
 use Rattle.promises.specs.Library.{Told, target, command, Call, first, Library, end}
