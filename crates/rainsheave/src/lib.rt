@@ -225,6 +225,7 @@ pub fn jump(device: Device, n: u32) -> Change
 }
 
 // The state: 0 DISABLED, 1 HOLD, 2 ACTIVE, 3 FAULT.
+#[tactic(auto, unfolding(crate::specs::Calls::query_answer))]
 pub fn state(device: Device) -> Reading
     ensures { StateIs device result }
 {
@@ -236,6 +237,7 @@ pub fn state(device: Device) -> Reading
 }
 
 // The status word.
+#[tactic(auto, unfolding(crate::specs::Calls::query_answer))]
 pub fn status(device: Device) -> Reading
     ensures { StatusIs device result }
 {
@@ -247,6 +249,7 @@ pub fn status(device: Device) -> Reading
 }
 
 // The error code: 0 but in FAULT.
+#[tactic(auto, unfolding(crate::specs::Calls::query_answer))]
 pub fn error(device: Device) -> Reading
     ensures { ErrorIs device result }
 {
@@ -258,6 +261,7 @@ pub fn error(device: Device) -> Reading
 }
 
 // The position of the selected block, in 1/65,536 ir.
+#[tactic(auto, unfolding(crate::specs::Calls::query_answer))]
 pub fn position(device: Device) -> Reading
     ensures { PositionIs device result }
 {
@@ -270,6 +274,7 @@ pub fn position(device: Device) -> Reading
 }
 
 // The target, in ir.
+#[tactic(auto, unfolding(crate::specs::Calls::query_answer))]
 pub fn target(device: Device) -> Reading
     ensures { TargetIs device result }
 {
@@ -281,6 +286,7 @@ pub fn target(device: Device) -> Reading
 }
 
 // The command, in ir.
+#[tactic(auto, unfolding(crate::specs::Calls::query_answer))]
 pub fn command(device: Device) -> Reading
     ensures { CommandIs device result }
 {
@@ -292,6 +298,7 @@ pub fn command(device: Device) -> Reading
 }
 
 // The ticks until the target is met.
+#[tactic(auto, unfolding(crate::specs::Calls::query_answer))]
 pub fn ticks_to_go(device: Device) -> Reading
     ensures { TicksToGoIs device result }
 {
@@ -303,7 +310,7 @@ pub fn ticks_to_go(device: Device) -> Reading
 }
 
 // A PDO is received: the first bytes act as its map says.
-#[tactic(auto, unfolding(crate::specs::Calls::receive_answer))]
+#[tactic(auto, using(crate::proofs::Sound::receive_few), unfolding(crate::specs::Calls::receive_answer))]
 pub fn receive(device: Device, pdo: &[u8]) -> Change
     ensures { ReceiveIs device pdo.now result }
 {
@@ -319,7 +326,7 @@ pub fn receive(device: Device, pdo: &[u8]) -> Change
 }
 
 // A PDO is sent: the mapped values go to the first bytes of the room.
-#[tactic(auto, unfolding(crate::specs::Calls::send_room, crate::specs::Calls::send_answer))]
+#[tactic(auto, using(crate::proofs::Sound::transmit_few), unfolding(crate::specs::Calls::send_room, crate::specs::Calls::send_answer))]
 pub fn send(device: Device, room: &mut [u8]) -> Sent
     ensures { SendIs device room.old room.new result }
 {
@@ -338,7 +345,7 @@ pub fn send(device: Device, room: &mut [u8]) -> Sent
 }
 
 // The image of the position block's settings, whichever block is selected, goes to the first 97 bytes of the room.
-#[tactic(auto, unfolding(crate::specs::Calls::store_room, crate::specs::Calls::store_answer))]
+#[tactic(auto, using(crate::proofs::Images::settings_are_sound), unfolding(crate::specs::Calls::store_room, crate::specs::Calls::store_answer))]
 pub fn store(device: Device, room: &mut [u8]) -> Report
     ensures { StoreIs device room.old room.new result }
 {
