@@ -1,12 +1,13 @@
 #![tactic(auto)]
 // Reads cases from standard input, and prints how many there were and how many of them failed. The work is `judging::run`. A read
 // that fails is told on standard error, and no count is printed then: it would be taken for that of the whole input.
-ghost use Rattle.io.specs.Counts.{IsPrefixLen};
+ghost use Rattle.std.specs.Prelude.{◌≡◌, ◌≤◌, length, take};
 
 use judging::Tally;
-use libc::{STDERR_FILENO, STDIN_FILENO, STDOUT_FILENO};
+use std::io;
+use std::io::Read;
 
-// The length of `io::large_buffer`.
+// Whole records, so that only the end of the input can cut one short.
 const CHUNK_LENGTH: usize = 65536;
 
 // The tally after a chunk of the input, whether the input goes on, and whether a read failed.
@@ -24,29 +25,26 @@ struct Filled {
     failed: bool,
 }
 
-// Reads until the room is full, the input ends or a read fails. `io::read_full` does not tell the last two apart.
-fn fill(room: &mut [u8]) -> Filled
-    ensures { IsPrefixLen result.n room.new }
+// Reads until the room is full, the input ends or a read fails.
+fn fill<R: Read>(input: &mut R, room: &mut [u8]) -> Filled
+    ensures within { result.n ≤ length room.new }
+    ensures counted { result.n ≡ length (take result.n room.new) }
 {
     let mut n = 0;
     while n < room.len() {
-        let got = libc::read(STDIN_FILENO, &mut room[n..]);
-        if got < 0 {
-            return Filled { n, failed: true };
+        match input.read(&mut room[n..]) {
+            Ok(0) => return Filled { n, failed: false },
+            Ok(more) => n += more,
+            Err(_) => return Filled { n, failed: true },
         }
-        let more = io::count(got, &room[n..]);
-        if more == 0 {
-            return Filled { n, failed: false };
-        }
-        n += more;
     }
     Filled { n, failed: false }
 }
 
 // Only the last chunk is not full, so that no other ends in a part record.
-fn judge_chunk(tally: Tally) -> Chunk {
-    let mut bytes = io::large_buffer();
-    let filled = fill(&mut bytes);
+fn judge_chunk<R: Read>(input: &mut R, tally: Tally) -> Chunk {
+    let mut bytes = [0u8; CHUNK_LENGTH];
+    let filled = fill(input, &mut bytes);
     let n = filled.n;
     let after = judging::run(tally, &bytes[..n]);
     Chunk {
@@ -56,36 +54,33 @@ fn judge_chunk(tally: Tally) -> Chunk {
     }
 }
 
-// A proved loop has to end, so this one counts its turns down from a number that no run uses up.
-fn judge_all() -> Chunk {
+// A proved loop has to end, so this one has a number of turns that no run uses up.
+fn judge_all<R: Read>(input: &mut R) -> Chunk {
     let mut chunk = Chunk {
         tally: judging::fresh(),
         goes_on: true,
         failed: false,
     };
-    let mut turns = u64::MAX;
-    while turns > 0 && chunk.goes_on {
+    for _ in 0..u64::MAX {
+        if !chunk.goes_on {
+            break;
+        }
         let tally = chunk.tally;
-        chunk = judge_chunk(tally);
-        turns -= 1;
+        chunk = judge_chunk(input, tally);
     }
     chunk
 }
 
-fn print(tally: Tally) {
-    io::write_all(STDOUT_FILENO, b"cases ");
-    io::print_decimal(STDOUT_FILENO, tally.cases);
-    io::write_all(STDOUT_FILENO, b" failed ");
-    io::print_decimal(STDOUT_FILENO, tally.failed);
-    io::write_all(STDOUT_FILENO, b"\n");
+fn print(rt: &impl Print, tally: Tally) -> io::Result<()> {
+    println!(rt; "cases {} failed {}", tally.cases, tally.failed)
 }
 
-fn main() {
-    let last = judge_all();
+fn main(rt: HostRuntime) -> io::Result<()> {
+    let last = judge_all(&mut rt.reader());
     if last.failed {
-        io::write_all(STDERR_FILENO, b"cases: reading failed\n");
+        eprintln!(rt; "cases: reading failed")
     } else {
         let tally = last.tally;
-        print(tally);
+        print(&rt, tally)
     }
 }

@@ -2,9 +2,9 @@
 // A valve from switching on to the reset of its faults: set up by SDO, made ACTIVE and ticked along a ramp of type 2. Each line tells what
 // was done, and what became of it. examples/valve.c is the same program in C.
 use device::Device;
-use libc::STDOUT_FILENO;
 use rainsheave::{Change, Report, index, word};
 use sdo::Outcome;
+use std::io;
 
 // ---- what this program names of the device
 
@@ -37,30 +37,7 @@ const HOLD: i64 = device::HOLD as i64;
 
 const ACTIVE: i64 = device::ACTIVE as i64;
 
-// ---- text
-
-fn print(text: &[u8]) {
-    io::write_all(STDOUT_FILENO, text);
-}
-
-fn print_number(text: &[u8], number: u64) {
-    print(text);
-    io::print_decimal(STDOUT_FILENO, number);
-}
-
-fn print_hex(text: &[u8], number: u64, digits: usize) {
-    print(text);
-    io::print_hex(STDOUT_FILENO, number, digits);
-    print(b"h");
-}
-
-fn print_value(text: &[u8], value: i64) {
-    print(text);
-    if value < 0 {
-        print(b"-");
-    }
-    io::print_decimal(STDOUT_FILENO, magnitude(value));
-}
+// ---- numbers
 
 // The value without its sign. Below zero the step from -1 is taken, since the lowest value has no negative.
 fn magnitude(value: i64) -> u64 {
@@ -73,60 +50,56 @@ fn magnitude(value: i64) -> u64 {
 
 // ---- showing what became of a call
 
-fn show_state(state: i64) {
+fn show_state(rt: &impl Print, state: i64) -> io::Result<()> {
     match state {
-        DISABLED => print(b"DISABLED"),
-        HOLD => print(b"HOLD"),
-        ACTIVE => print(b"ACTIVE"),
-        _ => print(b"FAULT"),
+        DISABLED => print!(rt; "DISABLED"),
+        HOLD => print!(rt; "HOLD"),
+        ACTIVE => print!(rt; "ACTIVE"),
+        _ => print!(rt; "FAULT"),
     }
 }
 
 // No query refuses here: a device that the library has handed out is sound.
-fn show_device(valve: Device) {
+fn show_device(rt: &impl Print, valve: Device) -> io::Result<()> {
     let state = rainsheave::state(valve);
     let status = rainsheave::status(valve);
     let command = rainsheave::command(valve);
     let ticks_to_go = rainsheave::ticks_to_go(valve);
-    show_state(state.value);
-    print_value(b", status ", status.value);
-    print_value(b", command ", command.value);
-    print_value(b", ticks to go ", ticks_to_go.value);
+    show_state(rt, state.value)?;
+    print!(rt; ", status {}, command {}", status.value, command.value)?;
+    println!(rt; ", ticks to go {}", ticks_to_go.value)
 }
 
 // A call that is refused hands the device back as it was.
-fn show_change(change: Change) -> Device {
+fn show_change(rt: &impl Print, change: Change) -> io::Result<Device> {
     let valve = change.device;
     let report = change.report;
-    print(b": ");
+    print!(rt; ": ")?;
     match report {
-        Report::Done => show_device(valve),
-        Report::Refused(number) => print_number(b"refused by ", number as u64),
+        Report::Done => show_device(rt, valve)?,
+        Report::Refused(number) => println!(rt; "refused by {number}")?,
     }
-    print(b"\n");
-    valve
+    Ok(valve)
 }
 
-fn show_outcome(outcome: Outcome) {
-    print(b": ");
+fn show_outcome(rt: &impl Print, outcome: Outcome) -> io::Result<()> {
     match outcome {
-        Outcome::Read { size: _, number } => print_number(b"value ", number as u64),
-        Outcome::Written => print(b"done"),
-        Outcome::Abort(code) => print_hex(b"abort ", code as u64, 8),
-        Outcome::Refused(number) => print_number(b"refused by ", number as u64),
+        Outcome::Read { size: _, number } => println!(rt; ": value {number}"),
+        Outcome::Written => println!(rt; ": done"),
+        Outcome::Abort(code) => println!(rt; ": abort {code:08x}h"),
+        Outcome::Refused(number) => println!(rt; ": refused by {number}"),
     }
-    print(b"\n");
 }
 
 // ---- the calls
 
 // A request comes from the bus, and the reply goes back to it. The outcome says the same without the bytes.
-fn ask(valve: Device, request: [u8; 8]) -> Device {
+fn ask(rt: &impl Print, valve: Device, request: [u8; 8]) -> io::Result<Device> {
     let mut reply = [0u8; 8];
     let answer = rainsheave::sdo(valve, &request, &mut reply);
     let outcome = answer.outcome;
-    show_outcome(outcome);
-    answer.device
+    show_outcome(rt, outcome)?;
+    Ok(answer.device)
 }
 
 // A negative value goes into a request as its two's complement.
@@ -139,73 +112,72 @@ fn number_of(value: i64) -> u32 {
     }
 }
 
-fn set(valve: Device, entry: Entry, value: i64) -> Device {
+fn set(rt: &impl Print, valve: Device, entry: Entry, value: i64) -> io::Result<Device> {
     let Entry(index, sub_index, size) = entry;
-    print_hex(b"set ", index as u64, 4);
-    print_value(b" to ", value);
+    print!(rt; "set {index:04x}h to {value}")?;
     let request = rainsheave::write_request(index, sub_index, size, number_of(value));
-    ask(valve, request)
+    ask(rt, valve, request)
 }
 
-fn get(valve: Device, entry: Entry) -> Device {
+fn get(rt: &impl Print, valve: Device, entry: Entry) -> io::Result<Device> {
     let Entry(index, sub_index, _) = entry;
-    print_hex(b"get ", index as u64, 4);
+    print!(rt; "get {index:04x}h")?;
     let request = rainsheave::read_request(index, sub_index);
-    ask(valve, request)
+    ask(rt, valve, request)
 }
 
-fn control(valve: Device, word: u16) -> Device {
-    print_hex(b"control ", word as u64, 4);
-    show_change(rainsheave::control(valve, word))
+fn control(rt: &impl Print, valve: Device, word: u16) -> io::Result<Device> {
+    print!(rt; "control {word:04x}h")?;
+    show_change(rt, rainsheave::control(valve, word))
 }
 
-fn fault(valve: Device, code: u16) -> Device {
-    print_hex(b"fault ", code as u64, 4);
-    show_change(rainsheave::fault(valve, code))
+fn fault(rt: &impl Print, valve: Device, code: u16) -> io::Result<Device> {
+    print!(rt; "fault {code:04x}h")?;
+    show_change(rt, rainsheave::fault(valve, code))
 }
 
 // Writes the set point and ticks as often as the device says. Firmware ticks from a timer, once a millisecond, and puts the command out.
-fn go_to(valve: Device, set_point: i64) -> Device {
-    let mut valve = set(valve, SET_POINT, set_point);
+fn go_to(rt: &impl Print, valve: Device, set_point: i64) -> io::Result<Device> {
+    let mut valve = set(rt, valve, SET_POINT, set_point)?;
     let ticks_to_go = rainsheave::ticks_to_go(valve);
     for tick in 1..=magnitude(ticks_to_go.value) {
-        print_number(b"tick ", tick);
-        valve = show_change(rainsheave::tick(valve));
+        print!(rt; "tick {tick}")?;
+        valve = show_change(rt, rainsheave::tick(valve))?;
     }
-    valve
+    Ok(valve)
 }
 
 // ---- the program
 
-fn set_up(valve: Device) -> Device {
-    let valve = set(valve, UPPER_LIMIT, 5000);
-    let valve = set(valve, LOWER_LIMIT, -2000);
-    let valve = set(valve, UPPER_LIMIT, -3000); // aborted: it would stand below the lower one
-    let valve = set(valve, RAMP_TYPE, 2);
-    let valve = set(valve, ACCELERATION, 32); // so many ms for the full stroke of 16384 ir: 512 ir a tick
-    set(valve, DECELERATION, 16) // 1024 ir a tick
+fn set_up(rt: &impl Print, valve: Device) -> io::Result<Device> {
+    let valve = set(rt, valve, UPPER_LIMIT, 5000)?;
+    let valve = set(rt, valve, LOWER_LIMIT, -2000)?;
+    let valve = set(rt, valve, UPPER_LIMIT, -3000)?; // aborted: it would stand below the lower one
+    let valve = set(rt, valve, RAMP_TYPE, 2)?;
+    let valve = set(rt, valve, ACCELERATION, 32)?; // so many ms for the full stroke of 16384 ir: 512 ir a tick
+    set(rt, valve, DECELERATION, 16) // 1024 ir a tick
 }
 
-fn fail_and_reset(valve: Device) -> Device {
-    let valve = fault(valve, 0); // refused: this is the code of no fault
-    let valve = fault(valve, HARDWARE_FAULT);
-    let valve = control(valve, word::RESET_FAULT);
-    let valve = fault(valve, HARDWARE_FAULT);
-    let valve = control(valve, word::RESET_FAULT); // no reset: the bit has to rise, and was set already
-    let valve = control(valve, 0);
-    control(valve, word::RESET_FAULT)
+fn fail_and_reset(rt: &impl Print, valve: Device) -> io::Result<Device> {
+    let valve = fault(rt, valve, 0)?; // refused: this is the code of no fault
+    let valve = fault(rt, valve, HARDWARE_FAULT)?;
+    let valve = control(rt, valve, word::RESET_FAULT)?;
+    let valve = fault(rt, valve, HARDWARE_FAULT)?;
+    let valve = control(rt, valve, word::RESET_FAULT)?; // no reset: the bit has to rise, and was set already
+    let valve = control(rt, valve, 0)?;
+    control(rt, valve, word::RESET_FAULT)
 }
 
-fn main() {
+fn main(rt: HostRuntime) -> io::Result<()> {
     let valve = rainsheave::fresh();
-    print(b"fresh: ");
-    show_device(valve);
-    print(b"\n");
-    let valve = set_up(valve);
-    let valve = control(valve, GO_ACTIVE); // a word makes one move at most: this one to HOLD
-    let valve = control(valve, GO_ACTIVE);
-    let valve = go_to(valve, 8000); // the upper limit makes 5000 of it
-    let valve = get(valve, STATUS_WORD);
-    let valve = go_to(valve, -1000); // toward zero by the deceleration, a halt there, away by the acceleration
-    fail_and_reset(valve);
+    print!(rt; "fresh: ")?;
+    show_device(&rt, valve)?;
+    let valve = set_up(&rt, valve)?;
+    let valve = control(&rt, valve, GO_ACTIVE)?; // a word makes one move at most: this one to HOLD
+    let valve = control(&rt, valve, GO_ACTIVE)?;
+    let valve = go_to(&rt, valve, 8000)?; // the upper limit makes 5000 of it
+    let valve = get(&rt, valve, STATUS_WORD)?;
+    let valve = go_to(&rt, valve, -1000)?; // toward zero by the deceleration, a halt there, away by the acceleration
+    fail_and_reset(&rt, valve)?;
+    Ok(())
 }

@@ -1,5 +1,7 @@
 // Text that is put into a caller's bytes from a place on; each function hands back where it ends. A byte that finds no room is
 // left out, so that no function asks for room.
+use std::fmt;
+use std::fmt::{Display, Write};
 
 pub fn put(text: &mut [u8], at: usize, byte: u8) -> usize {
     if at < text.len() {
@@ -20,11 +22,30 @@ pub fn put_all(text: &mut [u8], at: usize, bytes: &[u8]) -> usize {
     end
 }
 
+// A caller's bytes as what is formatted goes into them, and where it ends.
+#[derive(Drop)]
+struct Room<'a> {
+    text: &'a mut [u8],
+    end: usize,
+}
+
+impl Write for Room<'_> {
+    fn write_str(&mut self, part: &str) -> fmt::Result {
+        self.end = put_all(self.text, self.end, part.as_bytes());
+        Ok(())
+    }
+}
+
+// A value as it is shown. A room refuses no part, so that the format has no failure to tell.
+fn put_shown<D: Display + Drop>(text: &mut [u8], at: usize, value: D) -> usize {
+    let mut room = Room { text, end: at };
+    let _ = write!(room, "{value}");
+    room.end
+}
+
 // A number in decimal.
 pub fn put_number(text: &mut [u8], at: usize, number: u64) -> usize {
-    let mut digits = [0u8; 20];
-    let n = io::decimal(number, &mut digits);
-    put_all(text, at, &digits[..n])
+    put_shown(text, at, number)
 }
 
 // The value without its sign. Below zero the step from -1 is taken, since the lowest value has no negative.
@@ -48,10 +69,8 @@ pub fn put_value(text: &mut [u8], at: usize, value: i64) -> usize {
 
 // A space, and a byte in two lower-case hexadecimal digits.
 fn put_byte(text: &mut [u8], at: usize, byte: u8) -> usize {
-    let mut digits = [0u8; 16];
-    let n = io::hex(byte as u64, 2, &mut digits);
     let at = put(text, at, b' ');
-    put_all(text, at, &digits[..n])
+    put_shown(text, at, format_args!("{byte:02x}"))
 }
 
 // Every byte, each with a space before it.
