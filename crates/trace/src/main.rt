@@ -53,7 +53,11 @@ fn write(rt: &impl Print, text: &[u8], end: usize) -> io::Result<bool> {
 }
 
 // The run stops where a read fails: what was read of that block may end anywhere, and has no lines.
-fn trace_block<R: Read>(rt: &(impl Print + Eprint), input: &mut R, run: Run) -> io::Result<Progress> {
+fn trace_block<R: Read>(
+    rt: &(impl Print + Eprint),
+    input: &mut R,
+    run: Run,
+) -> io::Result<Progress> {
     let mut records = [0u8; BLOCK_LENGTH];
     let filled = fill(input, &mut records);
     if filled.failed {
