@@ -1,6 +1,6 @@
 -- Document 01, "Command", in HOLD and ACTIVE, with the dither of wish 4 of document 02.
-use Rattle.std.specs.Prelude.{ℤ, pos, neg_ℤ, ◌+ℤ◌, ◌-ℤ◌}
-use Rattle.integers.specs.Words.{if◌then◌else◌, ◌over◌, ◌<?◌, ◌=?◌}
+use Rattle.std.specs.Prelude.{ℤ, pos, neg_ℤ, ◌+ℤ◌, ◌-ℤ◌, if◌then◌else◌}
+use Rattle.integers.specs.Words.{◌over◌, ◌<?◌, ◌=?◌}
 use Rattle.objects.specs.Numbers.{PARTS}
 use Rattle.objects.specs.Places.{DEAD_BAND_TYPE, A_SIDE, B_SIDE, THRESHOLD}
 use Rattle.block.specs.Block.{setting}

@@ -1,6 +1,6 @@
 -- Document 01, "From set point to target": the target is worked out from the settings each time.
-use Rattle.std.specs.Prelude.{Bool, ℤ, pos, ◌+ℤ◌, ◌*ℤ◌}
-use Rattle.integers.specs.Words.{if◌then◌else◌, minus, ◌over◌, ◌<?◌}
+use Rattle.std.specs.Prelude.{Bool, ℤ, pos, ◌+ℤ◌, ◌*ℤ◌, if◌then◌else◌}
+use Rattle.integers.specs.Words.{minus, ◌over◌, ◌<?◌}
 use Rattle.objects.specs.Numbers.{FULL_STROKE, PARTS}
 use Rattle.objects.specs.Places.{HOLD_SET_POINT, UPPER_LIMIT, LOWER_LIMIT, SCALING_FACTOR, SCALING_OFFSET, ZERO_CORRECTION}
 use Rattle.block.specs.declared.Block.{Block}

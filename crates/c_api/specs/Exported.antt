@@ -1,8 +1,7 @@
 -- What each exported call is fixed to leave, in every case: the number, the value, every word of the device and every byte of each lent
 -- buffer. What it is of the device that the words hold, the library's own answer says; words that hold none are refused as an unsound
 -- device is, and left as they are.
-use Rattle.std.specs.Prelude.{List, ◌≡◌, ℕ, ℤ, pos, length}
-use Rattle.integers.specs.Words.{if◌then◌else◌}
+use Rattle.std.specs.Prelude.{List, ◌≡◌, ℕ, ℤ, pos, length, if◌then◌else◌}
 use Rattle.device.specs.Device.{fresh_device}
 use Rattle.device.specs.declared.Device.{Device}
 use Rattle.image.specs.Walk.{walk, part_of, begin_of, code_of}

@@ -1,6 +1,6 @@
 -- Document 01, "SDO" and "Stored image": a value of 1, 2 or 4 bytes as a number. A signed value below zero has the top bit set.
-use Rattle.std.specs.Prelude.{Bool, not, ◌&&◌, ℕ, ◌-◌, ◌/◌, ◌%◌, ℤ, pos, nat_abs, ◌-ℤ◌}
-use Rattle.integers.specs.Words.{if◌then◌else◌, minus, ◌is◌, ◌below◌, ◌<?◌}
+use Rattle.std.specs.Prelude.{Bool, not, ◌&&◌, ℕ, ◌-◌, ◌/◌, ◌%◌, ℤ, pos, nat_abs, ◌-ℤ◌, if◌then◌else◌}
+use Rattle.integers.specs.Words.{minus, ◌is◌, ◌below◌, ◌<?◌}
 use Rattle.integers.specs.Range.{Within}
 
 -- how many numbers so many bytes hold

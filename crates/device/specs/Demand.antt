@@ -1,6 +1,5 @@
 -- Demand 3, of a device d.
-use Rattle.std.specs.Prelude.{true, ◌≢◌, ◌≡◌, ℕ, ◌+◌, ◌≤◌, ◌<◌, ℤ, pos}
-use Rattle.integers.specs.Words.{if◌then◌else◌}
+use Rattle.std.specs.Prelude.{true, ◌≢◌, ◌≡◌, ℕ, ◌+◌, ◌≤◌, ◌<◌, ℤ, pos, if◌then◌else◌}
 use Rattle.ramp.specs.Ramp.{position_after}
 use Rattle.block.specs.Target.{target_position}
 use Rattle.block.specs.Travel.{ramp_of}

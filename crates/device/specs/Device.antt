@@ -1,7 +1,7 @@
 -- A device's parts: the selected block and the other one, which of the two is selected, its state, the control word stored last, the error code,
 -- the maps and the dither; the device with one of them changed; the fresh device.
-use Rattle.std.specs.Prelude.{Bool, ℕ, ◌-◌}
-use Rattle.integers.specs.Words.{if◌then◌else◌, ◌is◌}
+use Rattle.std.specs.Prelude.{Bool, ℕ, ◌-◌, if◌then◌else◌}
+use Rattle.integers.specs.Words.{◌is◌}
 use Rattle.objects.specs.Places.{POSITION, PRESSURE}
 use Rattle.block.specs.Block.{fresh_block}
 use Rattle.block.specs.declared.Block.{Block}

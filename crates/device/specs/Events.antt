@@ -1,7 +1,7 @@
 -- Document 01, "Device states" and "Ramp", with wishes 4 and 6 of document 02: what an accepted control word, a fault, a tick and a jump do.
 -- Of the two blocks they know the selected one alone.
-use Rattle.std.specs.Prelude.{ℕ, zero, suc, pos}
-use Rattle.integers.specs.Words.{if◌then◌else◌, ◌is◌}
+use Rattle.std.specs.Prelude.{ℕ, zero, suc, pos, if◌then◌else◌}
+use Rattle.integers.specs.Words.{◌is◌}
 use Rattle.block.specs.Block.{at_position}
 use Rattle.block.specs.Travel.{tick_block, jump_block}
 use Rattle.block.specs.declared.Block.{Block}

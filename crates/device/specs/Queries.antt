@@ -1,7 +1,7 @@
 -- Document 01, "Device states", "From set point to target", "Ramp" and "Command", with wishes 4 and 6 of document 02: what can be asked of a device,
 -- which is of the selected block.
-use Rattle.std.specs.Prelude.{ℕ, ◌+◌, ℤ, pos}
-use Rattle.integers.specs.Words.{if◌then◌else◌, ◌is◌, ◌=?◌}
+use Rattle.std.specs.Prelude.{ℕ, ◌+◌, ℤ, pos, if◌then◌else◌}
+use Rattle.integers.specs.Words.{◌is◌, ◌=?◌}
 use Rattle.block.specs.Target.{target_of, target_position}
 use Rattle.block.specs.Command.{command_of}
 use Rattle.block.specs.Travel.{ticks_to_go_of}

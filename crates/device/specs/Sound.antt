@@ -1,6 +1,6 @@
 -- Document 01, "Numbers handed back", with wishes 2, 4 and 6 of document 02: what makes a state sound.
-use Rattle.std.specs.Prelude.{Bool, true, not, ◌&&◌, ◌||◌, ◌≡◌, ℕ, pos}
-use Rattle.integers.specs.Words.{if◌then◌else◌, ◌is◌, ◌=?◌}
+use Rattle.std.specs.Prelude.{Bool, true, not, ◌&&◌, ◌||◌, ◌≡◌, ℕ, pos, if◌then◌else◌}
+use Rattle.integers.specs.Words.{◌is◌, ◌=?◌}
 use Rattle.objects.specs.Places.{POSITION, PRESSURE}
 use Rattle.block.specs.Sound.{sound_block}
 use Rattle.mapping.specs.Sound.{sound_maps}

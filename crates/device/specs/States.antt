@@ -1,6 +1,6 @@
 -- Document 01, "Device states": the four states by their numbers, and the moves of a control word.
-use Rattle.std.specs.Prelude.{Bool, not, ◌&&◌, ◌||◌, ℕ, ◌/◌, ◌%◌, ◌^◌}
-use Rattle.integers.specs.Words.{if◌then◌else◌, ◌is◌}
+use Rattle.std.specs.Prelude.{Bool, not, ◌&&◌, ◌||◌, ℕ, ◌/◌, ◌%◌, ◌^◌, if◌then◌else◌}
+use Rattle.integers.specs.Words.{◌is◌}
 
 abbrev pub DISABLED : ℕ
 DISABLED = 0

@@ -1,7 +1,7 @@
 -- Document 01, "SDO", with wishes 1, 2 and 6 of document 02: what becomes of a read or a write, with the aborts from the second on in their order,
 -- and the device after it.
-use Rattle.std.specs.Prelude.{Bool, false, not, ℕ, ◌-◌, ℤ, nat_abs}
-use Rattle.integers.specs.Words.{if◌then◌else◌, ◌is◌, ◌below◌, ◌<?◌}
+use Rattle.std.specs.Prelude.{Bool, false, not, ℕ, ◌-◌, ℤ, nat_abs, if◌then◌else◌}
+use Rattle.integers.specs.Words.{◌is◌, ◌below◌, ◌<?◌}
 use Rattle.objects.specs.Places.{UPPER_LIMIT, LOWER_LIMIT, RECEIVE_MAP, TRANSMIT_MAP, SET_POINT}
 use Rattle.objects.specs.Table.{WHILE_ACTIVE, OUTSIDE_DISABLED, row_at}
 use Rattle.coding.specs.Coding.{value_of, number_of}

@@ -1,7 +1,7 @@
 -- Document 01, "Objects", with wishes 2, 4 and 6 of document 02: what the value of a block at a place is, and what an accepted write of it does.
 -- What is of no block has its value for either.
-use Rattle.std.specs.Prelude.{ℕ, ◌-◌, ℤ, pos, nat_abs}
-use Rattle.integers.specs.Words.{if◌then◌else◌, ◌is◌, ◌below◌}
+use Rattle.std.specs.Prelude.{ℕ, ◌-◌, ℤ, pos, nat_abs, if◌then◌else◌}
+use Rattle.integers.specs.Words.{◌is◌, ◌below◌}
 use Rattle.objects.specs.Places.{SETTINGS, DITHER_TYPE, RECEIVE_MAP, TRANSMIT_MAP, SET_POINT, SELECTION}
 use Rattle.objects.specs.Places.{CONTROL_WORD, STATUS_WORD, ERROR_CODE, COMMAND}
 use Rattle.block.specs.Block.{setting, with_setting, with_setpoint}

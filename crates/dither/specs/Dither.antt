@@ -1,7 +1,7 @@
 -- Wish 4 of document 02: the dither's parts, which are its type, amplitude and frequency (6360h to 6362h, in this order) and its phase;
 -- the dither with one of them changed; the fresh dither.
-use Rattle.std.specs.Prelude.{ℕ, ℤ}
-use Rattle.integers.specs.Words.{if◌then◌else◌, ◌is◌}
+use Rattle.std.specs.Prelude.{ℕ, ℤ, if◌then◌else◌}
+use Rattle.integers.specs.Words.{◌is◌}
 use Rattle.objects.specs.Places.{DITHER_TYPE, DITHER_AMPLITUDE, DITHER_FREQUENCY}
 use Rattle.objects.specs.Table.{row_at}
 use Rattle.dither.specs.declared.Dither.{Dither}

@@ -1,6 +1,6 @@
 -- Wish 4 of document 02: the waves, over amplitude and phase, and the dither in ir.
-use Rattle.std.specs.Prelude.{ℕ, ◌/◌, ◌^◌, ℤ, pos, ◌-ℤ◌, ◌*ℤ◌, neg_ℤ}
-use Rattle.integers.specs.Words.{if◌then◌else◌, ◌over◌, ◌=?◌, ◌below◌}
+use Rattle.std.specs.Prelude.{ℕ, ◌/◌, ◌^◌, ℤ, pos, ◌-ℤ◌, ◌*ℤ◌, neg_ℤ, if◌then◌else◌}
+use Rattle.integers.specs.Words.{◌over◌, ◌=?◌, ◌below◌}
 use Rattle.dither.specs.declared.Dither.{Dither}
 
 -- square: plus the amplitude below half of the phase range, and minus from there

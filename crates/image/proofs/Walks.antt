@@ -1,4 +1,5 @@
 -- The walk from the start, seen from a place that it has reached: each of the five ends of a turn. A field has a header, so the fuel never runs out.
+use Rattle.std.specs.Prelude.{if◌then◌else◌}
 use mathlib.Core.Path.{◌≡◌, refl, ap, ◌∙◌}
 use mathlib.Core.List.{List}
 use Prim.Native.Nat.{ℕ, zero, suc, ◌+◌, ◌-◌, ◌≤◌, ◌<◌}
@@ -6,7 +7,7 @@ use native.Mathlib.Omega.{arith}
 use borrow.Author.Tests.{lt-ltb, le-ltb, eq-eqb, ne_eqb}
 use lib.IntN.{ℤ}
 use lib.ListN.{length}
-use Rattle.integers.specs.Words.{if◌then◌else◌, ◌is◌, ◌below◌}
+use Rattle.integers.specs.Words.{◌is◌, ◌below◌}
 use Rattle.objects.specs.Places.{SETTINGS}
 use Rattle.coding.specs.Bytes.{byte_at}
 use Rattle.block.specs.Block.{at}

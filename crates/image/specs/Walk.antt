@@ -1,6 +1,6 @@
 -- Document 01, "Stored image": the fields of any slice are walked from the start, to the first field so tagged.
-use Rattle.std.specs.Prelude.{List, [], ℕ, zero, suc, ◌+◌, ◌-◌, length, take, drop}
-use Rattle.integers.specs.Words.{if◌then◌else◌, ◌is◌, ◌below◌}
+use Rattle.std.specs.Prelude.{List, [], ℕ, zero, suc, ◌+◌, ◌-◌, length, take, drop, if◌then◌else◌}
+use Rattle.integers.specs.Words.{◌is◌, ◌below◌}
 use Rattle.coding.specs.Bytes.{byte_at}
 use Rattle.image.specs.Fields.{HEADER}
 use Rattle.image.specs.Load.{length_at}

@@ -1,14 +1,9 @@
--- The words in which every definition is written. Each is a short name of a function of the language's library, but for `◌=?◌`, `_among_` and `each`.
-use Rattle.std.specs.Prelude.{Bool, true, false, cond, ◌&&◌, ◌||◌, List, [], ◌∷◌, ℕ, zero, suc, eqb, ltb, ℤ, pos, negsuc, neg_ℤ}
+-- The words in which every definition is written. Each is a short name of a function of the language's library, but for `◌=?◌`, `◌among◌` and `each`; `if t then a else b` is the language's own.
+use Rattle.std.specs.Prelude.{Bool, true, false, ◌&&◌, ◌||◌, List, [], ◌∷◌, ℕ, zero, suc, eqb, ltb, ℤ, pos, negsuc, neg_ℤ}
 use Rattle.std.specs.Int.Signed.{lt_z, le_z, quot_z}
 
-infixr 5 if◌then◌else◌
 infixl 7 ◌over◌
 infix 50 ◌<?◌ ◌≤?◌ ◌=?◌ ◌is◌ ◌below◌ ◌among◌
--- the first value where the test holds, and else the second
-abbrev pub if◌then◌else◌ : {A : Type 0} → Bool → A → A → A
-if t then a else b = cond t a b
-
 -- the number below zero
 abbrev pub minus : ℕ → ℤ
 minus n = neg_ℤ (pos n)

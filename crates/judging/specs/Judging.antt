@@ -1,6 +1,6 @@
 -- Document 01, "Examples": cases run in order, each a record of 16 bytes, a request and its expected reply.
-use Rattle.std.specs.Prelude.{Bool, ◌&&◌, List, ◌≡◌, ℕ, zero, suc, ◌+◌, ◌*◌, ◌/◌, length, take, drop, replicate}
-use Rattle.integers.specs.Words.{if◌then◌else◌, ◌is◌, ◌below◌, each}
+use Rattle.std.specs.Prelude.{Bool, ◌&&◌, List, ◌≡◌, ℕ, zero, suc, ◌+◌, ◌*◌, ◌/◌, length, take, drop, replicate, if◌then◌else◌}
+use Rattle.integers.specs.Words.{◌is◌, ◌below◌, each}
 use Rattle.coding.specs.Bytes.{byte_at}
 use Rattle.device.specs.Device.{fresh_device}
 use Rattle.sdo.specs.Frames.{FRAME, is_due}

@@ -1,11 +1,12 @@
 -- A fresh device tells what the sheet says of a fresh state: each row's fresh value is its line's, by a test that is computed over the rows.
+use Rattle.std.specs.Prelude.{if◌then◌else◌}
 use mathlib.Core.Bool.{Bool, true, false, ◌&&◌}
 use mathlib.Core.Path.{◌≡◌, refl, sym, ap, ◌∙◌, fun_ext}
 use Prim.Native.Nat.{ℕ, ◌≤◌, ◌<◌}
 use native.Mathlib.Omega.{arith}
 use borrow.Author.Tests.{eqb-true, eqb-false, ltb-true}
 use lib.IntN.{ℤ, pos}
-use Rattle.integers.specs.Words.{if◌then◌else◌, each, ◌is◌, ◌=?◌}
+use Rattle.integers.specs.Words.{each, ◌is◌, ◌=?◌}
 use Rattle.integers.proofs.Cases.{by_cases}
 use Rattle.integers.proofs.Each.{and_split, each_at}
 use Rattle.integers.proofs.Machine.{=?-yes}

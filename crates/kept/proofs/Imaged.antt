@@ -1,5 +1,6 @@
 -- The stored image on our devices. The tagged lines are those of the rows of the stored settings, in their order: so what is stored, asked for and loaded
 -- place by place is what the rules say line by line, by induction over the lines.
+use Rattle.std.specs.Prelude.{if◌then◌else◌}
 use mathlib.Core.Bool.{Bool, true, false, ◌&&◌, and-true, and_assoc}
 use mathlib.Core.List.{List, [], ◌∷◌, ◌++◌, append-nil, append_assoc}
 use mathlib.Core.Logic.{◌≢◌}
@@ -12,7 +13,7 @@ use borrow.Author.Tests.{eqb-true, eqb-false, eq-eqb, lt-ltb, le-ltb, ltb-true}
 use lib.IntN.{ℤ}
 use lib.ListN.{length, take, drop}
 use lib.Seq.{get_or-drop, drop-drop}
-use Rattle.integers.specs.Words.{if◌then◌else◌, each, ◌is◌, ◌below◌}
+use Rattle.integers.specs.Words.{each, ◌is◌, ◌below◌}
 use Rattle.integers.proofs.Cases.{by_cases, by_test, by_less, clash}
 use Rattle.integers.proofs.Each.{and_split, and_both, each_at}
 use Rattle.objects.specs.Places.{LOWER_LIMIT, UPPER_LIMIT, SETTINGS, SET_POINT, SELECTION, POSITION, PRESSURE}

@@ -1,5 +1,6 @@
 -- C answers of words what the library answers of the device that they hold, and so keeps the library's promises: the words that a refused call
 -- leaves are those that came, and those that a call leaves which is done hold the library's device again. Words that hold none are unsound.
+use Rattle.std.specs.Prelude.{if◌then◌else◌}
 use mathlib.Core.Bool.{Bool, true, false, not, cond, ◌||◌}
 use mathlib.Core.List.{List, [], ◌∷◌}
 use mathlib.Core.Path.{◌≡◌, refl, sym, ap, ◌∙◌}
@@ -9,7 +10,7 @@ use native.Mathlib.Omega.{arith}
 use borrow.Author.Tests.{eqb-true}
 use lib.IntN.{ℤ, pos}
 use lib.ListN.{length, take, drop, length-append, length-map}
-use Rattle.integers.specs.Words.{if◌then◌else◌, ◌below◌}
+use Rattle.integers.specs.Words.{◌below◌}
 use Rattle.integers.proofs.Cases.{by_cases, apart}
 use Rattle.integers.proofs.Each.{and_split}
 use Rattle.block.proofs.Sound.{block_parts}

@@ -1,12 +1,13 @@
 -- What a control word, a fault, a tick and a jump leave a sound device with is what the rules say of what was told: position, state, control
 -- word, error code and phase are the rules', and of all else the same is told.
+use Rattle.std.specs.Prelude.{if◌then◌else◌}
 use mathlib.Core.Logic.{◌≢◌}
 use mathlib.Core.Path.{◌≡◌, refl, sym, ap, ◌∙◌, fun_ext}
 use Prim.Native.Nat.{ℕ, zero, suc, ◌+◌, ◌*◌, ◌/◌, ◌%◌, ◌≤◌, ◌<◌}
 use native.Mathlib.Omega.{arith}
 use borrow.Author.Tests.{ltb-true}
 use lib.IntN.{ℤ, pos, nat_abs, ◌*ℤ◌}
-use Rattle.integers.specs.Words.{if◌then◌else◌, ◌is◌, ◌below◌}
+use Rattle.integers.specs.Words.{◌is◌, ◌below◌}
 use Rattle.integers.proofs.Cases.{by_cases}
 use Rattle.objects.specs.Places.{SELECTION, PRESSURE}
 use Rattle.block.specs.Block.{at_position}

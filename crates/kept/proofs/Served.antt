@@ -1,5 +1,6 @@
 -- SDO requests. What a line's value is told is the value that its index and sub-index name; each test of a decision is the condition of its line in the
 -- list of aborts, so the first that holds is the abort; and an accepted write leaves every other value as it was, since a value has one name.
+use Rattle.std.specs.Prelude.{if◌then◌else◌}
 use mathlib.Core.Bool.{Bool, true, false, not, cond, ◌&&◌, ◌||◌}
 use mathlib.Core.List.{List, [], ◌∷◌, ◌++◌}
 use mathlib.Core.Logic.{◌≢◌}
@@ -9,7 +10,7 @@ use native.Mathlib.Omega.{arith}
 use borrow.Author.Tests.{eqb-true, eqb-false, eq-eqb, ne_eqb, lt-ltb, le-ltb, ltb-false, not-true, not-false}
 use lib.IntN.{ℤ, nat_abs}
 use lib.ListN.{drop}
-use Rattle.integers.specs.Words.{if◌then◌else◌, each, ◌is◌, ◌below◌, ◌<?◌, ◌among◌}
+use Rattle.integers.specs.Words.{each, ◌is◌, ◌below◌, ◌<?◌, ◌among◌}
 use Rattle.integers.proofs.Cases.{by_cases, by_less, clash}
 use Rattle.integers.proofs.Each.{and_split}
 use Rattle.objects.specs.Places.{UPPER_LIMIT, LOWER_LIMIT, RECEIVE_MAP, TRANSMIT_MAP, SET_POINT, SELECTION, CONTROL_WORD, STATUS_WORD, ERROR_CODE, COMMAND}

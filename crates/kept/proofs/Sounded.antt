@@ -1,5 +1,6 @@
 -- A device is sound exactly where what is told of it is: each value lies in its row's range where it lies in its line's, and the other
 -- conditions are the same.
+use Rattle.std.specs.Prelude.{if◌then◌else◌}
 use mathlib.Core.Bool.{true, not, ◌&&◌}
 use mathlib.Core.List.{List, [], ◌∷◌}
 use mathlib.Core.Path.{◌≡◌, refl, sym, ap, ◌∙◌}
@@ -9,7 +10,7 @@ use borrow.Author.Tests.{eqb-true, eqb-false, eq-eqb, lt-ltb, le-ltb, ltb-true, 
 use lib.IntN.{pos}
 use lib.ListN.{length}
 use lib.Signed.{◌≤ℤ◌}
-use Rattle.integers.specs.Words.{if◌then◌else◌, each, minus, ◌is◌, ◌below◌, ◌among◌, ◌≤?◌}
+use Rattle.integers.specs.Words.{each, minus, ◌is◌, ◌below◌, ◌among◌, ◌≤?◌}
 use Rattle.integers.specs.Range.{Within}
 use Rattle.integers.proofs.Cases.{by_cases, clash}
 use Rattle.integers.proofs.Each.{and_split, and_both, each_at, each_all}

@@ -1,7 +1,7 @@
 -- Rainsheave as such a library: its states are devices, and its answers those that its contracts name. What is told of
 -- a device has not to be believed: by `Complete` a library that keeps the promises answers alike whatever it tells.
-use Rattle.std.specs.Prelude.{Bool, ◌&&◌, [], ◌%◌, ℤ, pos, length}
-use Rattle.integers.specs.Words.{if◌then◌else◌, ◌is◌, ◌below◌}
+use Rattle.std.specs.Prelude.{Bool, ◌&&◌, [], ◌%◌, ℤ, pos, length, if◌then◌else◌}
+use Rattle.integers.specs.Words.{◌is◌, ◌below◌}
 use Rattle.objects.specs.Places.{SETTINGS, SELECTION}
 use Rattle.mapping.specs.Maps.{ENTRIES}
 use Rattle.image.specs.Walk.{walk, part_of, begin_of, code_of}

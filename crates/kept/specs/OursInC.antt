@@ -1,7 +1,7 @@
 -- The calls for C as such a library: its states are words, and 56 of them may hold a device. It has not to be believed:
 -- by `Shipped` whatever meets the contract of an exported call leaves and hands back what is answered here.
-use Rattle.std.specs.Prelude.{Bool, ◌&&◌, ◌||◌, List, [], ◌≡◌, ℕ, ◌<◌, ℤ, pos, length, take, drop}
-use Rattle.integers.specs.Words.{if◌then◌else◌, ◌is◌, ◌below◌}
+use Rattle.std.specs.Prelude.{Bool, ◌&&◌, ◌||◌, List, [], ◌≡◌, ℕ, ◌<◌, ℤ, pos, length, take, drop, if◌then◌else◌}
+use Rattle.integers.specs.Words.{◌is◌, ◌below◌}
 use Rattle.device.specs.Device.{fresh_device, with_state}
 use Rattle.device.specs.declared.Device.{Device}
 use Rattle.rainsheave.specs.Calls.{control_answer, fault_answer, tick_answer, jump_answer, receive_answer, load_answer}

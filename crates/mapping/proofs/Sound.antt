@@ -1,4 +1,5 @@
 -- A sound map by its parts, both ways. The fresh maps are sound, and every write that is allowed keeps a map sound: what it would count or let stand it has tested.
+use Rattle.std.specs.Prelude.{if◌then◌else◌}
 use mathlib.Core.Bool.{Bool, true, false, not, cond, ◌&&◌, ◌||◌}
 use mathlib.Core.List.{List, [], ◌∷◌}
 use mathlib.Core.Logic.{◌≢◌}
@@ -9,7 +10,7 @@ use borrow.Author.Tests.{eqb-true, eqb-false, ne_eqb, ltb-false, lt-ltb, le-ltb,
 use lib.Dec.{eqb}
 use lib.ListN.{length, take, length-set}
 use lib.Seq.{get_or-set_same, get_or-set_other}
-use Rattle.integers.specs.Words.{if◌then◌else◌, each, ◌is◌, ◌below◌, ◌among◌}
+use Rattle.integers.specs.Words.{each, ◌is◌, ◌below◌, ◌among◌}
 use Rattle.integers.proofs.Cases.{by_cases, by_less, clash, apart}
 use Rattle.integers.proofs.Each.{and_split, and_both, each_at, each_all}
 use Rattle.mapping.specs.Maps.{ENTRIES, RECEIVABLE, SENDABLE, bytes_of, entry_of, stands_at, with_at, length_of, map_length, fresh_map, fresh_maps, with_receive, with_transmit}

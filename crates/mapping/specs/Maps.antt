@@ -1,6 +1,6 @@
 -- Wish 2 of document 02: a map of process data is a number of entries and four entries; what an entry is made of; how long a PDO is.
-use Rattle.std.specs.Prelude.{List, [], ◌∷◌, ℕ, ◌+◌, ◌-◌, ◌/◌, ◌%◌, get_or, set, take}
-use Rattle.integers.specs.Words.{if◌then◌else◌, ◌is◌}
+use Rattle.std.specs.Prelude.{List, [], ◌∷◌, ℕ, ◌+◌, ◌-◌, ◌/◌, ◌%◌, get_or, set, take, if◌then◌else◌}
+use Rattle.integers.specs.Words.{◌is◌}
 use Rattle.mapping.specs.declared.Map.{Map}
 use Rattle.mapping.specs.declared.Maps.{Maps}
 

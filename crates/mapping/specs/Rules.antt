@@ -1,6 +1,6 @@
 -- Wish 2 of document 02, "Refusals, after place 8 and in this order": what becomes of a write to a map.
-use Rattle.std.specs.Prelude.{Bool, not, ◌&&◌, ◌||◌, List, ℕ}
-use Rattle.integers.specs.Words.{if◌then◌else◌, each, ◌is◌, ◌below◌, ◌among◌}
+use Rattle.std.specs.Prelude.{Bool, not, ◌&&◌, ◌||◌, List, ℕ, if◌then◌else◌}
+use Rattle.integers.specs.Words.{each, ◌is◌, ◌below◌, ◌among◌}
 use Rattle.mapping.specs.Maps.{ENTRIES, entry_of}
 use Rattle.mapping.specs.declared.Map.{Map}
 use Rattle.mapping.specs.declared.Ruling.{Ruling}

@@ -1,6 +1,6 @@
 -- Wish 2 of document 02: what makes a map sound.
-use Rattle.std.specs.Prelude.{Bool, not, ◌&&◌, List, ℕ, length}
-use Rattle.integers.specs.Words.{if◌then◌else◌, each, ◌is◌, ◌below◌, ◌among◌}
+use Rattle.std.specs.Prelude.{Bool, not, ◌&&◌, List, ℕ, length, if◌then◌else◌}
+use Rattle.integers.specs.Words.{each, ◌is◌, ◌below◌, ◌among◌}
 use Rattle.mapping.specs.Maps.{ENTRIES, RECEIVABLE, SENDABLE, entry_of}
 use Rattle.mapping.specs.declared.Map.{Map}
 use Rattle.mapping.specs.declared.Maps.{Maps}

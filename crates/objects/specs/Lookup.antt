@@ -1,6 +1,6 @@
 -- Document 01, "Objects", with wishes 2, 4 and 6 of document 02: which object has an index, of which block, and what stands at a sub-index.
-use Rattle.std.specs.Prelude.{Bool, true, not, ◌&&◌, ◌||◌, List, [], ◌∷◌, ◌≡◌, ℕ, suc, ◌+◌, ◌-◌, ◌*◌, ◌≤◌, ◌<◌}
-use Rattle.integers.specs.Words.{if◌then◌else◌, ◌is◌, ◌below◌}
+use Rattle.std.specs.Prelude.{Bool, true, not, ◌&&◌, ◌||◌, List, [], ◌∷◌, ◌≡◌, ℕ, suc, ◌+◌, ◌-◌, ◌*◌, ◌≤◌, ◌<◌, if◌then◌else◌}
+use Rattle.integers.specs.Words.{◌is◌, ◌below◌}
 use Rattle.objects.specs.Places.{SETTINGS, SET_POINT, COMMAND, POSITION, PRESSURE, ROWS}
 use Rattle.objects.specs.Table.{objects, row_at, VARIABLE, MAP}
 use Rattle.objects.specs.declared.Columns.{Columns}

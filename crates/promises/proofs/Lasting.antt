@@ -1,5 +1,6 @@
 -- The rules keep a sound state sound, call by call: a value that changes has been tested against its line's range, the limits and the maps' rules, and
 -- the other calls change state, error code, position and phase alone.
+use Rattle.std.specs.Prelude.{if◌then◌else◌}
 use mathlib.Core.Bool.{Bool, true, false, not, cond, ◌&&◌, ◌||◌}
 use mathlib.Core.List.{List, [], ◌∷◌}
 use mathlib.Core.Path.{◌≡◌, refl, sym, ap, ◌∙◌}
@@ -9,7 +10,7 @@ use borrow.Author.Tests.{eqb-true, eqb-false, eq-eqb, ne_eqb, ltb-false, le-ltb,
 use lib.IntN.{ℤ, pos, nat_abs}
 use lib.ListN.{drop}
 use lib.Signed.{le_z, lt_z}
-use Rattle.integers.specs.Words.{if◌then◌else◌, each, minus, ◌is◌, ◌below◌, ◌among◌, ◌=?◌, ◌≤?◌}
+use Rattle.integers.specs.Words.{each, minus, ◌is◌, ◌below◌, ◌among◌, ◌=?◌, ◌≤?◌}
 use Rattle.integers.specs.Range.{Within}
 use Rattle.integers.proofs.Cases.{by_cases, by_test, by_less, clash}
 use Rattle.integers.proofs.Each.{and_split, and_both, each_at, each_all}

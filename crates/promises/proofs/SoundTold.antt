@@ -1,11 +1,12 @@
 -- What is told of something sound, by its parts, both ways; and what its lines say of each value.
+use Rattle.std.specs.Prelude.{if◌then◌else◌}
 use mathlib.Core.Bool.{Bool, true, not, ◌&&◌, ◌||◌}
 use mathlib.Core.List.{List, [], ◌∷◌}
 use mathlib.Core.Path.{◌≡◌, refl}
 use Prim.Native.Nat.{ℕ, ◌<◌}
 use borrow.Author.Tests.{eqb-true, ltb-true, lt-ltb}
 use lib.IntN.{ℤ, pos}
-use Rattle.integers.specs.Words.{if◌then◌else◌, minus, ◌is◌, ◌below◌, ◌=?◌, ◌≤?◌}
+use Rattle.integers.specs.Words.{minus, ◌is◌, ◌below◌, ◌=?◌, ◌≤?◌}
 use Rattle.integers.specs.Range.{Within}
 use Rattle.integers.proofs.Cases.{by_cases, clash}
 use Rattle.integers.proofs.Each.{and_split, and_both}

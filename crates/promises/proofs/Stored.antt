@@ -1,5 +1,6 @@
 -- Storing and loading, and a search in what was stored, of any library that keeps the promises. A field of 1, 2 or 4 bytes tells its tag, its size and its
 -- value whatever comes after it; so the fields are read back line by line. What is needed of the 17 tagged lines is computed.
+use Rattle.std.specs.Prelude.{if◌then◌else◌}
 use mathlib.Core.Bool.{Bool, true, false, ◌&&◌, or-true}
 use mathlib.Core.List.{List, [], ◌∷◌, ◌++◌, map}
 use mathlib.Core.Path.{◌≡◌, refl, sym, ap, ap₂, subst, ◌∙◌, fun_ext}
@@ -11,7 +12,7 @@ use lib.IntN.{ℤ, pos, nat_abs}
 use lib.ListN.{length, get_or, take, drop, length-drop}
 use lib.Seq.{get_or-drop, drop-drop, take_at}
 use lib.Signed.{◌≤ℤ◌, ◌<ℤ◌}
-use Rattle.integers.specs.Words.{if◌then◌else◌, minus, ◌is◌, ◌below◌, ◌among◌, ◌<?◌, ◌≤?◌}
+use Rattle.integers.specs.Words.{minus, ◌is◌, ◌below◌, ◌among◌, ◌<?◌, ◌≤?◌}
 use Rattle.integers.specs.Range.{Within}
 use Rattle.integers.proofs.Cases.{by_cases, by_test, clash}
 use Rattle.integers.proofs.Each.{and_split, and_both}

@@ -1,5 +1,6 @@
 -- A frame's bytes hand its index and number back, so the promises tell its reply and what it leaves by the rules. A write that no rule forbids meets
 -- no abort; the value that it leaves at its entry has the number's low bytes, and every other entry that can be written keeps its value.
+use Rattle.std.specs.Prelude.{if◌then◌else◌}
 use mathlib.Core.Bool.{Bool, true, false, not, ◌&&◌, ◌||◌, and-false}
 use mathlib.Core.List.{List, [], ◌∷◌, ◌++◌, append-nil}
 use mathlib.Core.Logic.{◌≢◌}
@@ -9,7 +10,7 @@ use native.Mathlib.Omega.{arith}
 use borrow.Author.Tests.{eqb-true, eqb-false, eq-eqb, ne_eqb, le-ltb}
 use lib.IntN.{ℤ, pos, nat_abs, ◌-ℤ◌}
 use lib.ListN.{length, replicate}
-use Rattle.integers.specs.Words.{if◌then◌else◌, ◌is◌, ◌below◌, ◌among◌, ◌=?◌, ◌<?◌}
+use Rattle.integers.specs.Words.{◌is◌, ◌below◌, ◌among◌, ◌=?◌, ◌<?◌}
 use Rattle.integers.proofs.Cases.{by_cases, clash}
 use Rattle.integers.proofs.Each.{and_split, and_both}
 use Rattle.integers.proofs.Linear.{ints, abs_high, abs_nat, sub_nat}

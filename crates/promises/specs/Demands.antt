@@ -1,7 +1,8 @@
 -- Demands 1 to 3, of any library that keeps the promises, said of what the caller is answered and of what is told.
+use Rattle.std.specs.Prelude.{if◌then◌else◌}
 use Rattle.std.specs.Prelude.{Bool, true, false, not, ◌&&◌, ◌||◌, List, [], ◌∷◌, ◌≢◌, ◌≡◌, ℕ, suc, ◌+◌, ◌-◌, ◌*◌, ◌%◌}
 use Rattle.std.specs.Prelude.{◌^◌, ◌≤◌, ◌<◌, ℤ, pos, nat_abs, ◌+ℤ◌, ◌-ℤ◌, ◌*ℤ◌, length, replicate, get_or, take, drop}
-use Rattle.integers.specs.Words.{if◌then◌else◌, ◌<?◌, ◌is◌, ◌below◌, ◌among◌}
+use Rattle.integers.specs.Words.{◌<?◌, ◌is◌, ◌below◌, ◌among◌}
 use Rattle.integers.specs.Range.{Within}
 use Rattle.promises.specs.Library.{Told, holding, Query, sdo, control, tick, jump, query, send, store, load}
 use Rattle.promises.specs.Library.{search, status, position, target, ticks_to_go, first, Library, replies, end}

@@ -1,7 +1,8 @@
 -- Document 01, "Examples": the starred ones, in the paper's order, over the rules alone, each by calls from fresh:
 -- settings by SDO writes, positions by ticks. They check the rules, and no library.
+use Rattle.std.specs.Prelude.{if◌then◌else◌}
 use Rattle.std.specs.Prelude.{List, [], ◌∷◌, ◌++◌, map, ◌≡◌, ℕ, zero, suc, ◌-◌, ℤ, pos, negsuc, ◌*ℤ◌, replicate}
-use Rattle.integers.specs.Words.{if◌then◌else◌, minus, ◌is◌}
+use Rattle.integers.specs.Words.{minus, ◌is◌}
 use Rattle.promises.specs.Library.{Told, Query, state, position, target, command, ticks_to_go}
 use Rattle.promises.specs.Library.{Call, sdo, control, fault, tick, query}
 use Rattle.promises.specs.Library.{Reply, Answer, first, Library, end}

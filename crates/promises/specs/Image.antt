@@ -1,6 +1,7 @@
 -- Document 01, "Stored image": by wish 6 of document 02 that of the position block, whichever is selected.
+use Rattle.std.specs.Prelude.{if◌then◌else◌}
 use Rattle.std.specs.Prelude.{Bool, true, ◌&&◌, List, [], ◌∷◌, ◌++◌, ℕ, zero, suc, ◌+◌, ℤ, pos, length, take, drop}
-use Rattle.integers.specs.Words.{if◌then◌else◌, ◌is◌, ◌below◌, ◌≤?◌}
+use Rattle.integers.specs.Words.{◌is◌, ◌below◌, ◌≤?◌}
 use Rattle.promises.specs.Library.{Told, Reply}
 use Rattle.promises.specs.Sheet.{Line, line_at, in_range}
 use Rattle.promises.specs.Sdo.{number_for, stands_for, low_first, put, byte, two_from, four_from}

@@ -1,7 +1,6 @@
 -- What is told of a state of the valve, in numerals; and a library of this valve, whoever has written it. Its states
 -- are opaque, so that what is promised of it can cite nothing of its own.
-use Rattle.std.specs.Prelude.{Bool, List, [], ◌∷◌, ℕ, ℤ}
-use Rattle.integers.specs.Words.{if◌then◌else◌}
+use Rattle.std.specs.Prelude.{Bool, List, [], ◌∷◌, ℕ, ℤ, if◌then◌else◌}
 
 -- what is told of a state
 pub record Told : Type 0 where

@@ -1,8 +1,8 @@
 -- Document 01, "Numbers handed back", with wishes 2, 4 and 6 of document 02; and the promises: a library answers every
 -- call, of every state, sound or not, as the rules say of what is told of the state.
 use Rattle.std.specs.Prelude.{Bool, not, ◌&&◌, ◌||◌, List, [], ◌∷◌, ◌++◌, ◌≢◌, ◌≡◌, ℕ, ◌*◌, ◌/◌, ◌%◌, ℤ, pos, length}
-use Rattle.std.specs.Prelude.{drop}
-use Rattle.integers.specs.Words.{if◌then◌else◌, minus, ◌is◌, ◌below◌, ◌=?◌, ◌≤?◌}
+use Rattle.std.specs.Prelude.{drop, if◌then◌else◌}
+use Rattle.integers.specs.Words.{minus, ◌is◌, ◌below◌, ◌=?◌, ◌≤?◌}
 use Rattle.promises.specs.Library.{Told, holding, Query, Call, Reply, Answer, Refusal, ◌when◌, first, Library}
 use Rattle.promises.specs.Library.{fresh, sdo, control, fault, tick, jump, query, receive, send, store, load}
 use Rattle.promises.specs.Library.{search}

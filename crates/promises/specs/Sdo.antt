@@ -1,7 +1,7 @@
 -- Document 01, "SDO", with wishes 1, 2, 4 and 6 of document 02; then wish 2's process data.
 use Rattle.std.specs.Prelude.{Bool, false, not, ◌&&◌, ◌||◌, List, [], ◌∷◌, ◌++◌, ℕ, ◌+◌, ◌-◌, ◌*◌, ◌/◌, ◌%◌, ◌^◌, ℤ}
-use Rattle.std.specs.Prelude.{pos, nat_abs, ◌-ℤ◌, get_or, take, drop}
-use Rattle.integers.specs.Words.{if◌then◌else◌, each, ◌<?◌, ◌is◌, ◌below◌, ◌among◌}
+use Rattle.std.specs.Prelude.{pos, nat_abs, ◌-ℤ◌, get_or, take, drop, if◌then◌else◌}
+use Rattle.integers.specs.Words.{each, ◌<?◌, ◌is◌, ◌below◌, ◌among◌}
 use Rattle.promises.specs.Library.{Told, holding, Refusal, ◌when◌, first}
 use Rattle.promises.specs.Sheet.{Kind, Line, line_at, has_entry, is_read_only, is_held}
 use Rattle.promises.specs.Valve.{controlled, status, command}

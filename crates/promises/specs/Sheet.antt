@@ -1,7 +1,7 @@
 -- Document 01, "Objects", with wishes 2, 4 and 6 of document 02: a line for each entry that can be addressed.
 use Rattle.std.specs.Prelude.{Bool, true, false, not, ◌&&◌, ◌||◌, List, [], ◌∷◌, ◌++◌, ℕ, ◌+◌, ◌-◌, ◌/◌, ◌^◌, ℤ, pos}
-use Rattle.std.specs.Prelude.{length}
-use Rattle.integers.specs.Words.{if◌then◌else◌, minus, ◌is◌, ◌among◌, ◌≤?◌}
+use Rattle.std.specs.Prelude.{length, if◌then◌else◌}
+use Rattle.integers.specs.Words.{minus, ◌is◌, ◌among◌, ◌≤?◌}
 
 -- a type: how many bytes, signed or not, lowest and highest value
 pub record Kind : Type 0 where

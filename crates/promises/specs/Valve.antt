@@ -1,8 +1,8 @@
 -- Document 01, "Device states", "From set point to target", "Ramp" and "Command", with wishes 3, 4 and 6 of document
 -- 02. A state is 0 DISABLED, 1 HOLD, 2 ACTIVE, 3 FAULT; positions are in 1/65,536 ir.
 use Rattle.std.specs.Prelude.{Bool, not, ◌&&◌, ◌||◌, ℕ, zero, suc, ◌+◌, ◌-◌, ◌*◌, ◌/◌, ◌%◌, ◌^◌, max, ℤ, pos, neg_ℤ}
-use Rattle.std.specs.Prelude.{nat_abs, ◌+ℤ◌, ◌-ℤ◌, ◌*ℤ◌}
-use Rattle.integers.specs.Words.{if◌then◌else◌, minus, ◌over◌, ◌<?◌, ◌=?◌, ◌is◌, ◌below◌}
+use Rattle.std.specs.Prelude.{nat_abs, ◌+ℤ◌, ◌-ℤ◌, ◌*ℤ◌, if◌then◌else◌}
+use Rattle.integers.specs.Words.{minus, ◌over◌, ◌<?◌, ◌=?◌, ◌is◌, ◌below◌}
 use Rattle.promises.specs.Library.{Told, moved}
 
 -- ==== Device states

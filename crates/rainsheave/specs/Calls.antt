@@ -1,7 +1,7 @@
 -- Document 01, "Numbers handed back", with wishes 2 and 6 of document 02: what each call answers.
 -- Whatever number but 0 is handed back, the state is the given one.
-use Rattle.std.specs.Prelude.{Bool, not, List, ℕ, ◌/◌, ℤ, pos, length}
-use Rattle.integers.specs.Words.{if◌then◌else◌, ◌is◌, ◌below◌}
+use Rattle.std.specs.Prelude.{Bool, not, List, ℕ, ◌/◌, ℤ, pos, length, if◌then◌else◌}
+use Rattle.integers.specs.Words.{◌is◌, ◌below◌}
 use Rattle.objects.specs.Places.{POSITION}
 use Rattle.coding.specs.Bytes.{byte_at}
 use Rattle.block.specs.Block.{with_settings}

@@ -1,6 +1,6 @@
 -- Document 01, "Ramp", with wish 3 of document 02. A position p and a target t are whole numbers in 1/65,536 ir; steps, distances and ticks count from zero up.
-use Rattle.std.specs.Prelude.{Bool, not, ◌&&◌, ◌||◌, ℕ, zero, suc, ◌+◌, ◌-◌, ◌*◌, ◌/◌, ◌≤◌, max, ℤ, pos, nat_abs, ◌+ℤ◌, ◌-ℤ◌}
-use Rattle.integers.specs.Words.{if◌then◌else◌, ◌<?◌, ◌=?◌, ◌below◌}
+use Rattle.std.specs.Prelude.{Bool, not, ◌&&◌, ◌||◌, ℕ, zero, suc, ◌+◌, ◌-◌, ◌*◌, ◌/◌, ◌≤◌, max, ℤ, pos, nat_abs, ◌+ℤ◌, ◌-ℤ◌, if◌then◌else◌}
+use Rattle.integers.specs.Words.{◌<?◌, ◌=?◌, ◌below◌}
 use Rattle.objects.specs.Numbers.{FULL_POSITION}
 use Rattle.objects.specs.Places.{RAMP_TYPE, ACCELERATION}
 use Rattle.objects.specs.Table.{InRange}

@@ -1,6 +1,6 @@
 -- Document 01, "SDO": the bytes of a request and of its reply.
-use Rattle.std.specs.Prelude.{Bool, true, false, List, [], ◌∷◌, ◌++◌, ℕ, ◌%◌, ◌/◌, drop}
-use Rattle.integers.specs.Words.{if◌then◌else◌, ◌is◌}
+use Rattle.std.specs.Prelude.{Bool, true, false, List, [], ◌∷◌, ◌++◌, ℕ, ◌%◌, ◌/◌, drop, if◌then◌else◌}
+use Rattle.integers.specs.Words.{◌is◌}
 use Rattle.coding.specs.Bytes.{byte_at, two_of, four_of, four_bytes}
 use Rattle.sdo.specs.declared.Request.{Request}
 use Rattle.sdo.specs.declared.Asks.{Asks}

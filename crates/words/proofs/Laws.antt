@@ -1,4 +1,5 @@
 -- The words of a device with one part changed: what is stored is what the changed device has there, and all else stays.
+use Rattle.std.specs.Prelude.{if◌then◌else◌}
 use mathlib.Core.List.{List, [], ◌∷◌, ◌++◌}
 use mathlib.Core.Path.{◌≡◌, refl, ap, ◌∙◌}
 use Prim.Native.Nat.{ℕ, zero, suc, ◌+◌, ◌≤◌}
@@ -7,7 +8,7 @@ use native.Mathlib.Omega.{arith}
 use lib.IntN.{ℤ, pos}
 use lib.ListN.{length, set, take, length-append}
 use lib.Seq.{take-suc, take_all, sets, sets-eq, drop_at, get_or-append-add}
-use Rattle.integers.specs.Words.{if◌then◌else◌, ◌is◌}
+use Rattle.integers.specs.Words.{◌is◌}
 use Rattle.integers.proofs.Cases.{by_cases, by_test}
 use Rattle.objects.specs.Places.{SETTINGS, POSITION}
 use Rattle.mapping.specs.Maps.{ENTRIES}

@@ -1,4 +1,5 @@
 -- An accepted write stores what the words of the written device have: one word, or for a selection the blocks, or for a control word what moves.
+use Rattle.std.specs.Prelude.{if◌then◌else◌}
 use mathlib.Core.List.{List, [], ◌∷◌, ◌++◌, map}
 use mathlib.Core.Path.{◌≡◌, refl, sym, ap, ◌∙◌}
 use Prim.Native.Nat.{ℕ, zero, suc, ◌+◌, ◌-◌, ◌≤◌, ◌<◌}
@@ -9,7 +10,7 @@ use lib.Dec.{lit<}
 use lib.IntN.{ℤ, pos, nat_abs}
 use lib.ListN.{length, set, length-set, length-map}
 use lib.Seq.{set-append_left, set_at}
-use Rattle.integers.specs.Words.{if◌then◌else◌, ◌is◌}
+use Rattle.integers.specs.Words.{◌is◌}
 use Rattle.integers.proofs.Cases.{by_cases}
 use Rattle.objects.specs.Places.{SETTINGS, HOLD_SET_POINT, POSITION, DITHER_TYPE, RECEIVE_MAP, TRANSMIT_MAP, SET_POINT, SELECTION}
 use Rattle.objects.specs.Places as Places

@@ -1,7 +1,7 @@
 -- What the functions that store into words leave there: the laws show each to be the words of the changed device.
-use Rattle.std.specs.Prelude.{List, ℕ, ◌+◌, ◌-◌, ℤ, pos, nat_abs, set}
+use Rattle.std.specs.Prelude.{List, ℕ, ◌+◌, ◌-◌, ℤ, pos, nat_abs, set, if◌then◌else◌}
 use Rattle.std.proofs.lemmas.List.Edits.{sets}
-use Rattle.integers.specs.Words.{if◌then◌else◌, ◌is◌, ◌below◌, ◌=?◌}
+use Rattle.integers.specs.Words.{◌is◌, ◌below◌, ◌=?◌}
 use Rattle.objects.specs.Places.{SETTINGS, HOLD_SET_POINT, DITHER_TYPE, SET_POINT, SELECTION, POSITION}
 use Rattle.objects.specs.Places as Places
 use Rattle.block.specs.Block.{setting, with_setting, with_setpoint}
