@@ -301,7 +301,6 @@ pub fn rainsheave_store(device: &[i64; WORDS], room: &mut [u8]) -> u8
 }
 
 // A change of the position block goes to the words.
-#[tactic(auto, unfolding(device::specs::Device::block_of))]
 fn loaded_by(device: &mut [i64; WORDS], change: Change) -> u8
     requires { Loading device.old change }
     ensures { Stored change device.new result }
