@@ -21,8 +21,8 @@ pub record Determined : Type 0 where
   pub sdo :
       {request : List ℕ} {before a b : List ℤ} {room left left' : List ℕ} {r s : ℕ} →
       SdoIs request before a room left r → SdoIs request before b room left' s → (r ≡ s) × (a ≡ b) × (left ≡ left')
-  pub read_request_lem : {index sub : ℕ} {a b : List ℕ} → ReadRequestIs index sub a → ReadRequestIs index sub b → a ≡ b
-  pub write_request_lem :
+  pub read_request : {index sub : ℕ} {a b : List ℕ} → ReadRequestIs index sub a → ReadRequestIs index sub b → a ≡ b
+  pub write_request :
       {index sub size number : ℕ} {a b : List ℕ} → WriteRequestIs index sub size number a → WriteRequestIs index sub size number b → a ≡ b
   pub query : {value : Device → ℤ} {words : List ℤ} {r s : Reading} → QueryIs value words r → QueryIs value words s → r ≡ s
   pub send :

@@ -43,7 +43,7 @@ pub record Contracted (d : Device) : Type 1 where
   pub position : (r : Reading) → PositionIs d r → Tells Calls.position d r
   pub target : (r : Reading) → TargetIs d r → Tells Calls.target d r
   pub command : (r : Reading) → CommandIs d r → Tells Calls.command d r
-  pub ticks_to_go_lem : (r : Reading) → TicksToGoIs d r → Tells Calls.ticks_to_go d r
+  pub ticks_to_go : (r : Reading) → TicksToGoIs d r → Tells Calls.ticks_to_go d r
   pub receive : (pdo : List ℕ) (r : Change) → ReceiveIs d pdo r → answer_of (Calls.receive pdo) d ≡ changing r
   pub send :
       (room left : List ℕ) (r : Sent) → SendIs d room left r →

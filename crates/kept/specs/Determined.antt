@@ -30,7 +30,7 @@ pub record Determined : Type 1 where
   pub position : {d : Device} {r s : Reading} → PositionIs d r → PositionIs d s → r ≡ s
   pub target : {d : Device} {r s : Reading} → TargetIs d r → TargetIs d s → r ≡ s
   pub command : {d : Device} {r s : Reading} → CommandIs d r → CommandIs d s → r ≡ s
-  pub ticks_to_go_lem : {d : Device} {r s : Reading} → TicksToGoIs d r → TicksToGoIs d s → r ≡ s
+  pub ticks_to_go : {d : Device} {r s : Reading} → TicksToGoIs d r → TicksToGoIs d s → r ≡ s
   pub receive : {d : Device} {pdo : List ℕ} {r s : Change} → ReceiveIs d pdo r → ReceiveIs d pdo s → r ≡ s
   pub send :
       {d : Device} {before after after' : List ℕ} {r s : Sent} →
