@@ -13,15 +13,15 @@ else
 fi
 command -v "${compiler%% *}" > /dev/null || fail 2 "there is no compiler for x86-64, $compiler: tools/install-x86-64 installs Debian's"
 
-# Proves the library and writes it, where that is not done yet. The crate that is a static library has the exports alone; its archive
-# keeps the name that C programs know.
+# Proves the library and writes it, for every x86-64, where that is not done yet. The crate that is a static library has the exports alone;
+# its archive keeps the name that C programs know.
 make_library() {
     local log=target/staticlib.log made=crates/c_api_c/out/libc_api_c.a began
     if [ -f "$library" ] && [ -z "$(find crates.txt crates/*/{src,specs,proofs} -newer "$library" -type f -print -quit)" ]; then return; fi
     command -v rt > /dev/null || fail 2 'rt, the command of the Rattle kit, is not on the path'
     mkdir -p target
     began=$(date +%s.%N)
-    (cd crates/c_api_c && rt lib) < /dev/null > "$log" 2>&1 || {
+    (cd crates/c_api_c && rt lib --cpu x86-64) < /dev/null > "$log" 2>&1 || {
         tail -n 20 "$log" >&2
         [ "$(uname -m)" = x86_64 ] || fail 2 "there is no library: rt failed, and this machine is $(uname -m), while the Rattle kit is for x86-64; $log has all that rt said"
         fail 2 "there is no library, since c_api_c is not proved; $log has all that rt said"
