@@ -1,6 +1,6 @@
 /* Rainsheave for C11, and C++11 or later: the set-point path of a proportional valve's electronics. What each call does is laid down in
- * docs/SCOPE.md; its contract stands in crates/c_api/specs/Exported.antt, and is proved. `rt lib --cpu x86-64` in crates/c_api_c writes
- * the library, crates/c_api_c/out/libc_api_c.a, for every x86-64. Of the C library it needs memcpy alone.
+ * docs/SCOPE.md; its contract stands in crates/c_api/specs/Exported.antt, and is proved. README.md says how
+ * the library, target/staticlib/libc_api.a, is made, for every x86-64. Of the C library it needs memcpy alone.
  *
  * Numbers. Each call that can refuse hands back a number: RAINSHEAVE_NUMBER_DONE, an SDO abort included, or the reason of a refusal. A
  * call that refuses writes nothing: the device and every byte of a lent room are as they were.
