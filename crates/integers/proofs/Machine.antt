@@ -1,4 +1,4 @@
--- What the machine says of signed numbers, said of the numbers. A signed local holds bits, so that a need speaks of `to_z w (of_z w z)`, which is z where z fits. `search needs` reads that by itself in a goal; these laws read it in what a test told.
+-- What the machine says of signed numbers, said of the numbers. A signed local holds bits, so that a goal may speak of `to_z w (of_z w z)`, which is z where z fits. These laws read it in what a test or a call told.
 use mathlib.Core.Path.{◌≡◌, refl, sym, ap, subst, ◌∙◌}
 use mathlib.Core.Bool.{Bool, true, false}
 use mathlib.Core.List.{List}
@@ -39,7 +39,7 @@ pub =?-no : (a b : ℤ) → (a ≡ b → ⊥) → (a =? b) ≡ false
 =?-no (negsuc a) (pos b) h = refl
 =?-no (negsuc a) (negsuc b) h = ne_eqb a b (λ e. h (ap negsuc e))
 
--- ---- a test of two numbers, as `c.if1.taken` and `c.if1.left` have it
+-- ---- a test of two numbers, as the `.true` and `.false` of its step have it
 module _ {w : Width} {a b : ℤ} (f : SFits w a) (g : SFits w b) where
   pub lt_told : {t : Bool} → lt_z (to_z w (of_z w a)) (to_z w (of_z w b)) ≡ t → lt_z a b ≡ t
   lt_told e = simp (to_z-of_z f, to_z-of_z g) at e
@@ -54,7 +54,7 @@ module _ {w : Width} {a b : ℤ} (f : SFits w a) (g : SFits w b) where
   pub ne_told : (of_z w a ≡ of_z w b → ⊥) → (a =? b) ≡ false
   ne_told h = =?-no a b (λ e. h (ap (of_z w) e))
 
--- the range of a call's result, `c.f.ok`
+-- the range of a call's result, `c.f.type_inv`
 pub ok_fits : {z : ℤ} → mag z < 2 ^ 63 → SFits w64 z
 ok_fits h = record { sfits = h }
 
@@ -70,7 +70,7 @@ quot_fits {w} a d f = record { sfits = by a (2 ^ hbits w) f.sfits }
     by (pos a) n h = omega (arith, div-le_self a d)
     by (negsuc a) n h = neg (suc a / d) n (omega arith) (omega (arith, div-le_self (suc a) d))
 
--- a call's result, read back: `c.f.ok` and `c.f.ensures`
+-- a call's result, read back: `c.f.type_inv` and `c.f.ensures`
 pub result_told : {z y : ℤ} → mag z < 2 ^ 63 → z ≡ y → to_z w64 (of_z w64 z) ≡ y
 result_told f e = to_z-of_z (ok_fits f) ∙ e
 

@@ -1,4 +1,4 @@
--- The words in which every definition is written. Each is a short name of a function of the language's library, but for `◌=?◌`, `◌among◌` and `each`; `if t then a else b` is the language's own.
+-- The words in which every definition is written. Each is a short name of a function of the language's library, but for `◌=?◌`, `◌among◌` and `each`.
 use Rattle.std.specs.Prelude.{Bool, true, false, ◌&&◌, ◌||◌, List, [], ◌∷◌, ℕ, zero, suc, eqb, ltb, ℤ, pos, negsuc, neg_ℤ}
 use Rattle.std.specs.Int.Signed.{lt_z, le_z, quot_z}
 

@@ -78,7 +78,7 @@ sound_from_parts t p =
 
 -- ---- lines
 
--- the test of a line in `inRange`
+-- the test of a line in `in_range`
 abbrev pub fits_line : (ℕ → ℕ → ℤ) → Line → Bool
 fits_line value l = not (is_held l) || (l.kind.low ≤? value l.index l.sub && value l.index l.sub ≤? l.kind.high)
 
