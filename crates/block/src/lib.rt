@@ -21,7 +21,7 @@ use objects::{
 };
 use ramp::{Ramp, Times};
 
-#[derive(Clone, Copy)]
+#[derive(Clone, Copy, PartialEq, Eq)]
 pub struct Block {
     pub setpoint: i64,
     // in 1/65,536 ir

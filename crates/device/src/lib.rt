@@ -17,7 +17,7 @@ use dither::Dither;
 use mapping::Maps;
 use objects::{POSITION, PRESSURE};
 
-#[derive(Clone, Copy)]
+#[derive(Clone, Copy, PartialEq, Eq)]
 pub struct Device {
     // the selected block, which drives the command
     pub block: Block,

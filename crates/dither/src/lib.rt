@@ -12,7 +12,7 @@ ghost use Rattle.dither.specs.Asked.{Amplitude};
 
 use objects::{DITHER_AMPLITUDE, DITHER_FREQUENCY, DITHER_TYPE};
 
-#[derive(Clone, Copy)]
+#[derive(Clone, Copy, PartialEq, Eq)]
 pub struct Dither {
     // 0 off, 1 square, 2 triangle
     pub kind: i64,

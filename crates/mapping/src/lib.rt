@@ -11,14 +11,14 @@ ghost use Rattle.mapping.specs.Asked.{Few, Counting, Fitting};
 pub const ENTRIES: usize = 4;
 
 // How many of them are counted, and the entries.
-#[derive(Clone, Copy)]
+#[derive(Clone, Copy, PartialEq, Eq)]
 pub struct Map {
     pub count: u8,
     pub entries: [u32; ENTRIES],
 }
 
 // What is received, and what is sent.
-#[derive(Clone, Copy)]
+#[derive(Clone, Copy, PartialEq, Eq)]
 pub struct Maps {
     pub receive: Map,
     pub transmit: Map,
