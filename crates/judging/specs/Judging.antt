@@ -1,5 +1,5 @@
 -- Document 01, "Examples": cases run in order, each a record of 16 bytes, a request and its expected reply.
-use Rattle.std.specs.Prelude.{Bool, ◌&&◌, List, ◌≡◌, ℕ, zero, suc, ◌+◌, ◌*◌, ◌/◌, length, take, drop, replicate, if◌then◌else◌}
+use Rattle.std.specs.Prelude.{Bool, ◌&&◌, List, ℕ, zero, suc, ◌+◌, ◌*◌, ◌/◌, length, take, drop, replicate, if◌then◌else◌}
 use Rattle.integers.specs.Words.{◌is◌, ◌below◌, each}
 use Rattle.coding.specs.Bytes.{byte_at}
 use Rattle.device.specs.Device.{fresh_device}
@@ -56,7 +56,3 @@ judged (suc n) bytes t = judged_case (case_at bytes n) (judged n bytes t)
 -- after all whole records
 abbrev pub judged_all : List ℕ → Tally → Tally
 judged_all bytes t = judged (length bytes / CASE) bytes t
-
--- what the judging of one case asks: the bytes of a case
-pub record ACase (bytes : List ℕ) : Type 0 where
-  pub long : length bytes ≡ CASE

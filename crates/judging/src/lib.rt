@@ -2,7 +2,7 @@
 // The judging of cases, each a record of 16 bytes: a request and its expected reply. No input is refused.
 ghost use Rattle.std.specs.Prelude.{◌≡◌};
 ghost use Rattle.sdo.specs.Asked.{EightBytes};
-ghost use Rattle.judging.specs.Judging.{same, one_more, failed_after, fresh_tally, judged_case, judged_all, ACase};
+ghost use Rattle.judging.specs.Judging.{one_more, failed_after, fresh_tally, judged_case, judged_all};
 ghost use Rattle.judging.specs.Judging as Judging;
 
 use device::Device;
@@ -35,36 +35,17 @@ pub fn fresh() -> Tally
 fn one_more(count: u64) -> u64
     ensures { result ≡ one_more count }
 {
-    if count < u64::MAX { count + 1 } else { count }
-}
-
-// Eight bytes, each the same.
-#[tactic(auto, unfolding(crate::specs::Judging::same))]
-fn is_same(reply: [u8; 8], expected: &[u8]) -> bool
-    requires { EightBytes expected.now }
-    ensures { result ≡ same reply expected.now }
-{
-    let mut k = 0;
-    while k < 8 {
-        if reply[k] != expected[k] {
-            return false;
-        }
-        k += 1;
-    }
-    true
+    count.saturating_add(1)
 }
 
 // A case passes where a reply is due and is the expected one.
-#[tactic(auto, unfolding(crate::specs::Judging::passes))]
-fn passes(outcome: Outcome, reply: [u8; 8], expected: &[u8]) -> bool
-    requires { EightBytes expected.now }
-    ensures { result ≡ Judging.passes outcome reply expected.now }
+#[tactic(auto, unfolding(crate::specs::Judging::passes), using(crate::proofs::Same::eq_same))]
+fn passes(outcome: Outcome, reply: &[u8], expected: &[u8]) -> bool
+    requires reply { EightBytes reply.now }
+    requires expected { EightBytes expected.now }
+    ensures { result ≡ Judging.passes outcome reply.now expected.now }
 {
-    if sdo::is_due(outcome) {
-        is_same(reply, expected)
-    } else {
-        false
-    }
+    sdo::is_due(outcome) && reply == expected
 }
 
 // How many failed, by whether one case more passes.
@@ -77,19 +58,16 @@ fn failed_after(failed: u64, passes: bool) -> u64
 
 // One case more.
 #[tactic(auto, unfolding(crate::specs::Judging::judged_case))]
-fn judge(tally: Tally, case: &[u8]) -> Tally
-    requires { ACase case.now }
+fn judge(tally: Tally, case: &[u8; CASE]) -> Tally
     ensures { result ≡ judged_case case.now tally }
 {
-    let device = tally.device;
-    let mut reply = [0u8; 8];
-    let answer = rainsheave::sdo(device, &case[..8], &mut reply);
-    let outcome = answer.outcome;
-    let after = answer.device;
+    let (request, expected) = case.split_at(8);
+    let mut reply = [0; 8];
+    let answer = rainsheave::sdo(tally.device, request, &mut reply);
     Tally {
-        device: after,
+        device: answer.device,
         cases: one_more(tally.cases),
-        failed: failed_after(tally.failed, passes(outcome, reply, &case[8..])),
+        failed: failed_after(tally.failed, passes(answer.outcome, &reply, expected)),
     }
 }
 
@@ -98,14 +76,10 @@ fn judge(tally: Tally, case: &[u8]) -> Tally
 pub fn run(tally: Tally, bytes: &[u8]) -> Tally
     ensures { result ≡ judged_all bytes.now tally }
 {
-    let n = bytes.len() / CASE;
+    let (cases, _) = bytes.as_chunks::<CASE>();
     let mut after = tally;
-    let mut k = 0;
-    while k < n {
-        let from = CASE * k;
-        let end = from + CASE;
-        after = judge(after, &bytes[from..end]);
-        k += 1;
+    for case in cases {
+        after = judge(after, case);
     }
     after
 }

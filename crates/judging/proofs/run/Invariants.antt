@@ -1,10 +1,7 @@
--- The records that the loop has passed are judged, and each turn leaves fewer.
-use Rattle.std.proofs.Common.{◌-◌, ◌≡◌, ◌≤◌}
+-- The records that the loop has passed are judged.
+use Rattle.std.proofs.Common.{◌≡◌}
 use Rattle.judging.specs.Judging.{judged}
 use Rattle.judging.proofs.run.Given as goal
 
-abbrev pub invariant-loop-k : goal.invariant-loop-k
-invariant-loop-k l = (l.k ≤ l.n) × (l.after ≡ judged l.k l.bytes l.fn.tally)
-
-abbrev pub decreases-loop-k : goal.decreases-loop-k
-decreases-loop-k l = l.n - l.k
+abbrev pub invariant-loop-case : goal.invariant-loop-case
+invariant-loop-case l = l.after ≡ judged l.case-index l.bytes l.fn.tally
