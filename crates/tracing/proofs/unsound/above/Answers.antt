@@ -9,4 +9,4 @@ use Rattle.tracing.proofs.unsound.above.Goals as goal
 pub overflow_add-result : goal.overflow_add-result
 overflow_add-result c =
     let f : SFits w64 c.row_at-row.result.high = search rules in
-    rw (to_z-of_z f, c.row_at-row.ensures) (above_fits (c.args.word % SETTINGS) (omega arith))
+    rw (to_z-of_z f, c.row_at-row.ensures) (above_fits (c.from.result % SETTINGS) (omega arith))

@@ -9,4 +9,4 @@ use Rattle.tracing.proofs.unsound.below.Goals as goal
 pub overflow_sub-result : goal.overflow_sub-result
 overflow_sub-result c =
     let f : SFits w64 c.row_at-row.result.low = search rules in
-    rw (to_z-of_z f, c.row_at-row.ensures) (below_fits (c.args.word % SETTINGS) (omega arith))
+    rw (to_z-of_z f, c.row_at-row.ensures) (below_fits (c.from.result % SETTINGS) (omega arith))

@@ -1,6 +1,0 @@
--- Each turn leaves fewer bytes.
-use Rattle.std.proofs.Common.{length, ◌-◌}
-use Rattle.tracing.proofs.text.put_all.Given as goal
-
-abbrev pub decreases-loop-i : goal.decreases-loop-i
-decreases-loop-i l = length l.bytes - l.i
