@@ -4,7 +4,8 @@
 use device::Device;
 use rainsheave::{Change, Report, index, word};
 use sdo::Outcome;
-use std::io;
+use std::fmt::{Display, Formatter, Write};
+use std::{fmt, io};
 
 // ---- what this program names of the device
 
@@ -37,49 +38,41 @@ const HOLD: i64 = device::HOLD as i64;
 
 const ACTIVE: i64 = device::ACTIVE as i64;
 
-// ---- numbers
-
-// The value without its sign. Below zero the step from -1 is taken, since the lowest value has no negative.
-fn magnitude(value: i64) -> u64 {
-    if value < 0 {
-        (-1 - value) as u64 + 1
-    } else {
-        value as u64
-    }
-}
-
 // ---- showing what became of a call
 
-fn show_state(rt: &impl Print, state: i64) -> io::Result<()> {
+fn name_of(state: i64) -> &'static str {
     match state {
-        DISABLED => print!(rt; "DISABLED"),
-        HOLD => print!(rt; "HOLD"),
-        ACTIVE => print!(rt; "ACTIVE"),
-        _ => print!(rt; "FAULT"),
+        DISABLED => "DISABLED",
+        HOLD => "HOLD",
+        ACTIVE => "ACTIVE",
+        _ => "FAULT",
     }
 }
 
-// No query refuses here: a device that the library has handed out is sound.
-fn show_device(rt: &impl Print, valve: Device) -> io::Result<()> {
-    let state = rainsheave::state(valve);
-    let status = rainsheave::status(valve);
-    let command = rainsheave::command(valve);
-    let ticks_to_go = rainsheave::ticks_to_go(valve);
-    show_state(rt, state.value)?;
-    print!(rt; ", status {}, command {}", status.value, command.value)?;
-    println!(rt; ", ticks to go {}", ticks_to_go.value)
+// A valve as it is shown. No query refuses here: a device that the library has handed out is sound.
+#[derive(Clone, Copy)]
+struct Shown(Device);
+
+impl Display for Shown {
+    fn fmt<W: Write>(&self, f: &mut Formatter<W>) -> fmt::Result {
+        let state = name_of(rainsheave::state(self.0).value);
+        let status = rainsheave::status(self.0).value;
+        let command = rainsheave::command(self.0).value;
+        let ticks_to_go = rainsheave::ticks_to_go(self.0).value;
+        write!(
+            f,
+            "{state}, status {status}, command {command}, ticks to go {ticks_to_go}"
+        )
+    }
 }
 
 // A call that is refused hands the device back as it was.
 fn show_change(rt: &impl Print, change: Change) -> io::Result<Device> {
-    let valve = change.device;
-    let report = change.report;
-    print!(rt; ": ")?;
-    match report {
-        Report::Done => show_device(rt, valve)?,
-        Report::Refused(number) => println!(rt; "refused by {number}")?,
+    match change.report {
+        Report::Done => println!(rt; ": {}", Shown(change.device))?,
+        Report::Refused(number) => println!(rt; ": refused by {number}")?,
     }
-    Ok(valve)
+    Ok(change.device)
 }
 
 fn show_outcome(rt: &impl Print, outcome: Outcome) -> io::Result<()> {
@@ -95,27 +88,17 @@ fn show_outcome(rt: &impl Print, outcome: Outcome) -> io::Result<()> {
 
 // A request comes from the bus, and the reply goes back to it. The outcome says the same without the bytes.
 fn ask(rt: &impl Print, valve: Device, request: [u8; 8]) -> io::Result<Device> {
-    let mut reply = [0u8; 8];
+    let mut reply = [0; 8];
     let answer = rainsheave::sdo(valve, &request, &mut reply);
-    let outcome = answer.outcome;
-    show_outcome(rt, outcome)?;
+    show_outcome(rt, answer.outcome)?;
     Ok(answer.device)
 }
 
 // A negative value goes into a request as its two's complement.
-fn number_of(value: i64) -> u32 {
-    let low = (magnitude(value) % 0x100000000) as u32;
-    if value < 0 {
-        std::num::wrapping_sub_u32(0, low)
-    } else {
-        low
-    }
-}
-
-fn set(rt: &impl Print, valve: Device, entry: Entry, value: i64) -> io::Result<Device> {
+fn set(rt: &impl Print, valve: Device, entry: Entry, value: i32) -> io::Result<Device> {
     let Entry(index, sub_index, size) = entry;
     print!(rt; "set {index:04x}h to {value}")?;
-    let request = rainsheave::write_request(index, sub_index, size, number_of(value));
+    let request = rainsheave::write_request(index, sub_index, size, value.cast_unsigned());
     ask(rt, valve, request)
 }
 
@@ -137,10 +120,9 @@ fn fault(rt: &impl Print, valve: Device, code: u16) -> io::Result<Device> {
 }
 
 // Writes the set point and ticks as often as the device says. Firmware ticks from a timer, once a millisecond, and puts the command out.
-fn go_to(rt: &impl Print, valve: Device, set_point: i64) -> io::Result<Device> {
+fn go_to(rt: &impl Print, valve: Device, set_point: i32) -> io::Result<Device> {
     let mut valve = set(rt, valve, SET_POINT, set_point)?;
-    let ticks_to_go = rainsheave::ticks_to_go(valve);
-    for tick in 1..=magnitude(ticks_to_go.value) {
+    for tick in 1..=rainsheave::ticks_to_go(valve).value {
         print!(rt; "tick {tick}")?;
         valve = show_change(rt, rainsheave::tick(valve))?;
     }
@@ -170,8 +152,7 @@ fn fail_and_reset(rt: &impl Print, valve: Device) -> io::Result<Device> {
 
 fn main(rt: HostRuntime) -> io::Result<()> {
     let valve = rainsheave::fresh();
-    print!(rt; "fresh: ")?;
-    show_device(&rt, valve)?;
+    println!(rt; "fresh: {}", Shown(valve))?;
     let valve = set_up(&rt, valve)?;
     let valve = control(&rt, valve, GO_ACTIVE)?; // a word makes one move at most: this one to HOLD
     let valve = control(&rt, valve, GO_ACTIVE)?;
