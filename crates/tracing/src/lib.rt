@@ -39,7 +39,7 @@ const LONGER: u8 = 3;
 
 // The first n bytes, or all where there are no more.
 fn first(bytes: &[u8], n: usize) -> &[u8] {
-    if n < bytes.len() { &bytes[..n] } else { bytes }
+    bytes.get(..n).unwrap_or(bytes)
 }
 
 fn first_mut(bytes: &mut [u8], n: usize) -> &mut [u8] {
@@ -178,9 +178,10 @@ impl Run {
         let room = first_mut(&mut room, usize::from(length));
         let report = rainsheave::store(self.device, room);
         let number = rainsheave::number_of_report(report);
-        // What is done has filled an image's room.
-        if number == 0 && IMAGE_LENGTH <= room.len() {
-            self.image.copy_from_slice(&room[..IMAGE_LENGTH]);
+        if number == 0
+            && let Some(image) = room.get(..IMAGE_LENGTH)
+        {
+            self.image.copy_from_slice(image);
         }
         write!(line, "store {number}{}", Bytes(room))
     }

@@ -41,20 +41,21 @@ const LAST_BLOCK: u8 = 255;
 // The last phase of a period.
 const LAST_PHASE: u32 = u32::MAX;
 
-// A word picks the setting, at the place word % 17. One more than the highest value of its range.
+// A word picks the setting: it stands at the place word % 17.
+fn set(block: &mut Block, word: u16, value: i64) {
+    block.settings[usize::from(word) % SETTINGS] = value;
+}
+
+// One more than the highest value of that setting's range.
+#[tactic(auto, using(crate::proofs::Ends::above_fits))]
 fn above(word: u16) -> i64 {
-    let row = objects::row_at(usize::from(word) % SETTINGS);
-    row.high + 1
+    objects::row_at(usize::from(word) % SETTINGS).high + 1
 }
 
 // One less than the lowest.
+#[tactic(auto, using(crate::proofs::Ends::below_fits))]
 fn below(word: u16) -> i64 {
-    let row = objects::row_at(usize::from(word) % SETTINGS);
-    row.low - 1
-}
-
-fn set(block: &mut Block, word: u16, value: i64) {
-    block.settings[usize::from(word) % SETTINGS] = value;
+    objects::row_at(usize::from(word) % SETTINGS).low - 1
 }
 
 fn cross_limits(block: &mut Block) {
@@ -158,7 +159,7 @@ fn break_other(block: &mut Block, way: u8, word: u16) {
 
 // ---- the ways
 
-// The device is made unsound in one of six ways.
+// The device is made unsound in one of six ways. The first is an error code where there is none, and none in FAULT.
 pub fn alter(device: &mut Device, way: u8, word: u16) {
     match way {
         1 => device.error = if device.state == FAULT { 0 } else { 1 },

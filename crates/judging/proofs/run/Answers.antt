@@ -1,6 +1,5 @@
--- A turn judges the record at its place, and the loop ends after the last whole one.
-use Rattle.std.proofs.Common.{◌≡◌, ◌<◌, ◌/◌, [], length, arith, ap, ◌∙◌, get_or}
-use Rattle.judging.specs.Judging.{judged}
+-- A turn judges the record at its place.
+use Rattle.std.proofs.Common.{◌<◌, ◌/◌, [], length, arith, ap, ◌∙◌, get_or}
 use Rattle.judging.proofs.Cases.{chunk_at, judged_next}
 use Rattle.judging.proofs.run.Goals as goal
 
@@ -11,8 +10,3 @@ loop-case-preserved c =
     let within : k < length bytes / 16 = omega arith in
     let found = ap (λ cases. get_or cases k []) c.as_chunks.ensures.front ∙ chunk_at (length bytes / 16) k bytes within in
     judged_next k bytes _ c.args.tally _ _ found c.loop-case.invariant c.judge-after.ensures
-
-pub returns : goal.returns
-returns c =
-    let all : c.loop-case.case-index ≡ length c.args.bytes.now / 16 = omega arith in
-    c.loop-case.invariant ∙ ap (λ n. judged n c.args.bytes.now c.args.tally) all
