@@ -1,4 +1,5 @@
 -- Where an abort comes from. Each test of the order gives its code or passes on; so what holds of the fifth place's abort where sizes differ, of an abort with another place's code, and of all that is not aborted holds of every decision.
+use Rattle.std.specs.Prelude.{Option, Some, None}
 use mathlib.Core.Bool.{Bool, true, false, not}
 use mathlib.Core.List.{List, [], ◌∷◌}
 use mathlib.Core.Logic.{◌≢◌}
@@ -15,9 +16,8 @@ use Rattle.objects.specs.Places.{WRITABLE}
 use Rattle.objects.specs.Table.{row_at}
 use Rattle.objects.specs.Lookup.{place_of, entry_at}
 use Rattle.objects.specs.declared.Place.{Place}
-use Rattle.objects.specs.declared.Place.TheVariants.{At, Nowhere}
 use Rattle.objects.specs.declared.Entry.{Entry}
-use Rattle.objects.specs.declared.Entry.TheVariants.{Value, Fixed, Missing}
+use Rattle.objects.specs.declared.Entry.TheVariants.{Value, Fixed}
 use Rattle.objects.proofs.Rules.{writable_below}
 use Rattle.mapping.specs.declared.Ruling.{Ruling}
 use Rattle.mapping.specs.declared.Ruling.TheVariants.{Accepted, WhileCounted, AboveFour, NotMappable}
@@ -83,18 +83,18 @@ OtherCode (value which place) = Unit {0}
 OtherCode (byte number) = Unit {0}
 OtherCode (nothing code) = Other code
 
-entered_code : (which place : ℕ) (entry : Entry) → OtherCode (entered which place entry)
-entered_code which place (Value k) = tt
-entered_code which place (Fixed number) = tt
-entered_code which place Missing = refl
+entered_code : (which place : ℕ) (entry : Option Entry) → OtherCode (entered which place entry)
+entered_code which place (Some (Value k)) = tt
+entered_code which place (Some (Fixed number)) = tt
+entered_code which place None = refl
 
 named_code : (index sub : ℕ) → OtherCode (named index sub)
 unfolding named
 named_code index sub = by (place_of index)
   where
-    by : (p : Place) → OtherCode (located p sub)
-    by (At which place) = entered_code which place (entry_at (row_at place).entries sub)
-    by Nowhere = refl
+    by : (found : Option Place) → OtherCode (located found sub)
+    by (Some p) = entered_code p.which p.place (entry_at (row_at p.place).entries sub)
+    by None = refl
 
 -- a read is aborted with another place's code alone
 pub by_read : (P : Decision → Type 0) (d : Device) (index sub : ℕ) → ((code : ℕ) → Other code → P (Abort code)) → ((size number : ℕ) → P (Read size number)) → P (read_decision d index sub)

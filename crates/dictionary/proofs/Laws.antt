@@ -1,4 +1,5 @@
 -- Where the numbers of the dictionary lie: places within the table, values within their rows' ranges, and what an accepted write has shown.
+use Rattle.std.specs.Prelude.{Option, Some, None}
 use mathlib.Core.Bool.{Bool, true, false, not, cond, ◌&&◌, ◌||◌}
 use mathlib.Core.Path.{◌≡◌, refl, sym, ◌∙◌}
 use Prim.Native.Nat.{ℕ, ◌<◌, ◌≤◌}
@@ -18,9 +19,8 @@ use Rattle.objects.specs.Places.{SETTINGS, SET_POINT, SELECTION, CONTROL_WORD, C
 use Rattle.objects.specs.Table.{objects, row_at, InRange}
 use Rattle.objects.specs.Lookup.{block_number, place_from, place_of, is_of_block, Object, index_of, record_entry, entry_at}
 use Rattle.objects.specs.declared.Place.{Place}
-use Rattle.objects.specs.declared.Place.TheVariants.{At, Nowhere}
 use Rattle.objects.specs.declared.Entry.{Entry}
-use Rattle.objects.specs.declared.Entry.TheVariants.{Value, Fixed, Missing}
+use Rattle.objects.specs.declared.Entry.TheVariants.{Value, Fixed}
 use Rattle.objects.proofs.Rules.{found_object, value_object, writable_below}
 use Rattle.block.specs.Block.{setting}
 use Rattle.block.proofs.Sound.{block_parts}
@@ -50,18 +50,18 @@ InTable (value which place) = Object which place
 InTable (byte number) = Unit {0}
 InTable (nothing code) = Unit {0}
 
-entered_in_table : (which place sub : ℕ) (entry : Entry) → entry_at (row_at place).entries sub ≡ entry → Object which place → InTable (entered which place entry)
-entered_in_table which place sub (Value k) e h = value_object which place sub k h e
-entered_in_table which place sub (Fixed number) e h = tt
-entered_in_table which place sub Missing e h = tt
+entered_in_table : (which place sub : ℕ) (entry : Option Entry) → entry_at (row_at place).entries sub ≡ entry → Object which place → InTable (entered which place entry)
+entered_in_table which place sub (Some (Value k)) e h = value_object which place sub k h e
+entered_in_table which place sub (Some (Fixed number)) e h = tt
+entered_in_table which place sub None e h = tt
 
 pub named_in_table : (index sub : ℕ) → InTable (named index sub)
 unfolding named
 named_in_table index sub = by (place_of index) refl
   where
-    by : (p : Place) → place_of index ≡ p → InTable (located p sub)
-    by (At which place) e = entered_in_table which place sub (entry_at (row_at place).entries sub) refl (found_object index which place e)
-    by Nowhere e = tt
+    by : (found : Option Place) → place_of index ≡ found → InTable (located found sub)
+    by (Some p) e = entered_in_table p.which p.place sub (entry_at (row_at p.place).entries sub) refl (found_object index p e)
+    by None e = tt
 
 -- each object is named by its index and sub-index
 abbrev is_value : Named → ℕ → ℕ → Bool

@@ -1,4 +1,5 @@
 -- A pressure object is to the pressure block what its counterpart, 80h below, is to the position block: what is read, decided and written of it is that of the counterpart, of the device with its blocks the other way round.
+use Rattle.std.specs.Prelude.{Option, Some, None}
 use mathlib.Core.Bool.{true, not}
 use mathlib.Core.Path.{◌≡◌, refl, sym, ◌∙◌}
 use Prim.Native.Nat.{ℕ, ◌+◌, ◌≤◌, ◌<◌}
@@ -12,9 +13,8 @@ use Rattle.objects.specs.Places.{SETTINGS, SET_POINT, COMMAND, POSITION, PRESSUR
 use Rattle.objects.specs.Table.{row_at}
 use Rattle.objects.specs.Lookup.{ABOVE, place_of, is_of_block, Object, entry_at}
 use Rattle.objects.specs.declared.Place.{Place}
-use Rattle.objects.specs.declared.Place.TheVariants.{At, Nowhere}
 use Rattle.objects.specs.declared.Entry.{Entry}
-use Rattle.objects.specs.declared.Entry.TheVariants.{Value, Fixed, Missing}
+use Rattle.objects.specs.declared.Entry.TheVariants.{Value, Fixed}
 use Rattle.objects.proofs.Rules.{in_pressure, counterpart_place, found_in_position}
 use Rattle.mapping.specs.declared.Ruling.{Ruling}
 use Rattle.mapping.specs.declared.Ruling.TheVariants.{Accepted, WhileCounted, AboveFour, NotMappable}
@@ -44,14 +44,14 @@ module _ (index sub : ℕ) (from : 0x6300 ≤ index) (to : index ≤ 0x6345) whe
   unfolding named
   counterpart_named = rw (counterpart_place index from to) (by (place_of index))
     where
-      of : (which place : ℕ) (e : Entry) → entered PRESSURE place e ≡ pressured (entered which place e)
-      of which place (Value k) = refl
-      of which place (Fixed number) = refl
-      of which place Missing = refl
+      of : (which place : ℕ) (e : Option Entry) → entered PRESSURE place e ≡ pressured (entered which place e)
+      of which place (Some (Value k)) = refl
+      of which place (Some (Fixed number)) = refl
+      of which place None = refl
 
-      by : (p : Place) → located (in_pressure p) sub ≡ pressured (located p sub)
-      by (At which place) = of which place (entry_at (row_at place).entries sub)
-      by Nowhere = refl
+      by : (found : Option Place) → located (in_pressure found) sub ≡ pressured (located found sub)
+      by (Some p) = of p.which p.place (entry_at (row_at p.place).entries sub)
+      by None = refl
 
   -- what it names of the position block is its own
   record Own (which place : ℕ) : Type 0 where
@@ -69,14 +69,14 @@ module _ (index sub : ℕ) (from : 0x6300 ≤ index) (to : index ≤ 0x6345) whe
       position : (which place : ℕ) → named index sub ≡ value which place → which ≡ POSITION
       position which place = unfold named in of (place_of index) refl
         where
-          entry : (w p : ℕ) (e : Entry) → place_of index ≡ At w p → entered w p e ≡ value which place → which ≡ POSITION
-          entry w p (Value k) f e = let same : w ≡ which = cc in sym same ∙ found_in_position index w p (omega arith) f
-          entry w p (Fixed number) f e = apart (cc)
-          entry w p Missing f e = apart (cc)
+          entry : (p : Place) (e : Option Entry) → place_of index ≡ Some p → entered p.which p.place e ≡ value which place → which ≡ POSITION
+          entry p (Some (Value k)) f e = let same : p.which ≡ which = cc in sym same ∙ found_in_position index p (omega arith) f
+          entry p (Some (Fixed number)) f e = apart (cc)
+          entry p None f e = apart (cc)
 
-          of : (p : Place) → place_of index ≡ p → located p sub ≡ value which place → which ≡ POSITION
-          of (At w p) f e = entry w p (entry_at (row_at p).entries sub) f e
-          of Nowhere f e = apart (cc)
+          of : (found : Option Place) → place_of index ≡ found → located found sub ≡ value which place → which ≡ POSITION
+          of (Some p) f e = entry p (entry_at (row_at p.place).entries sub) f e
+          of None f e = apart (cc)
 
       by : (n : Named) → named index sub ≡ n → IsOwn n
       by (value which place) f =

@@ -3,7 +3,9 @@
 use Rattle.std.specs.Prelude.{Bool, false, not, ℕ, ◌-◌, ℤ, nat_abs, if◌then◌else◌}
 use Rattle.integers.specs.Words.{◌is◌, ◌below◌, ◌<?◌}
 use Rattle.objects.specs.Places.{UPPER_LIMIT, LOWER_LIMIT, RECEIVE_MAP, TRANSMIT_MAP, SET_POINT}
-use Rattle.objects.specs.Table.{WHILE_ACTIVE, OUTSIDE_DISABLED, row_at}
+use Rattle.objects.specs.Table.{row_at}
+use Rattle.objects.specs.declared.Lock.{Lock}
+use Rattle.objects.specs.declared.Lock.TheVariants.{Free, WhileActive, OutsideDisabled}
 use Rattle.coding.specs.Coding.{value_of, number_of}
 use Rattle.block.specs.Block.{setting}
 use Rattle.block.specs.declared.Block.{Block}
@@ -51,11 +53,10 @@ crosses b place x =
     else false
 
 -- place 8: an object with this lock may not be written in this state
-unfoldable pub is_locked : ℕ → ℕ → Bool
-is_locked lock state =
-    if lock is WHILE_ACTIVE then state is ACTIVE
-    else if lock is OUTSIDE_DISABLED then not (state is DISABLED)
-    else false
+unfoldable pub is_locked : Lock → ℕ → Bool
+is_locked Free state = false
+is_locked WhileActive state = state is ACTIVE
+is_locked OutsideDisabled state = not (state is DISABLED)
 
 -- places 9 to 11: what the rules of a map say; elsewhere they allow all
 unfoldable pub map_ruling : Maps → ℕ → ℤ → Ruling

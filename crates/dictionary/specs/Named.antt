@@ -1,11 +1,10 @@
 -- Document 01, "Objects" and "SDO", aborts 2 and 3, with wish 6 of document 02: what an index and a sub-index name.
-use Rattle.std.specs.Prelude.{ℕ, ◌+◌}
+use Rattle.std.specs.Prelude.{Option, Some, None, ℕ, ◌+◌}
 use Rattle.objects.specs.Table.{row_at}
 use Rattle.objects.specs.Lookup.{place_of, entry_at}
 use Rattle.objects.specs.declared.Place.{Place}
-use Rattle.objects.specs.declared.Place.TheVariants.{At, Nowhere}
 use Rattle.objects.specs.declared.Entry.{Entry}
-use Rattle.objects.specs.declared.Entry.TheVariants.{Value, Fixed, Missing}
+use Rattle.objects.specs.declared.Entry.TheVariants.{Value, Fixed}
 use Rattle.dictionary.specs.Aborts.{NO_OBJECT, NO_SUB_INDEX}
 
 -- the value of a block at a place, a byte that never changes, or nothing, with the abort's code
@@ -15,15 +14,15 @@ pub data Named : Type 0 where
   nothing : ℕ → Named
 
 -- what stands at an entry of the object whose first value is at a place
-abbrev pub entered : ℕ → ℕ → Entry → Named
-entered which place (Value k) = value which (place + k)
-entered which place (Fixed number) = byte number
-entered which place Missing = nothing NO_SUB_INDEX
+abbrev pub entered : ℕ → ℕ → Option Entry → Named
+entered which place (Some (Value k)) = value which (place + k)
+entered which place (Some (Fixed number)) = byte number
+entered which place None = nothing NO_SUB_INDEX
 
 -- what a sub-index of that object names
-abbrev pub located : Place → ℕ → Named
-located (At which place) sub = entered which place (entry_at (row_at place).entries sub)
-located Nowhere sub = nothing NO_OBJECT
+abbrev pub located : Option Place → ℕ → Named
+located (Some p) sub = entered p.which p.place (entry_at (row_at p.place).entries sub)
+located None sub = nothing NO_OBJECT
 
 -- what an index and a sub-index name
 unfoldable pub named : ℕ → ℕ → Named

@@ -14,9 +14,8 @@ use block::Block;
 use device::{ACTIVE, DISABLED, Device};
 use mapping::{Maps, RECEIVABLE, Ruling, SENDABLE};
 use objects::{
-    CONTROL_WORD, DITHER_TYPE, ERROR_CODE, Entry, LOWER_LIMIT, OUTSIDE_DISABLED, Place,
-    RECEIVE_MAP, Row, SELECTION, SET_POINT, SETTINGS, STATUS_WORD, TRANSMIT_MAP, UPPER_LIMIT,
-    WHILE_ACTIVE,
+    CONTROL_WORD, DITHER_TYPE, ERROR_CODE, Entry, LOWER_LIMIT, Lock, Place, RECEIVE_MAP, Row,
+    SELECTION, SET_POINT, SETTINGS, STATUS_WORD, TRANSMIT_MAP, UPPER_LIMIT,
 };
 
 // The aborts, in document 01's order, and those of a map after them.
@@ -140,21 +139,19 @@ pub fn decide_read(device: Device, index: u16, sub: u8) -> Decision
     requires { Sound device }
     ensures { result ≡ read_decision device index sub }
 {
-    match objects::place_of(index) {
-        Place::Nowhere => Decision::Abort(NO_OBJECT),
-        Place::At { which, place } => {
-            let row = objects::row_at(place);
-            match objects::entry_at(row.entries, sub) {
-                Entry::Value(k) => {
-                    read_value(device, which, place + k as usize, row_after(place, row, k))
-                }
-                Entry::Fixed(byte) => Decision::Read {
-                    size: 1,
-                    number: byte as u32,
-                },
-                Entry::Missing => Decision::Abort(NO_SUB_INDEX),
-            }
+    let Some(Place { which, place }) = objects::place_of(index) else {
+        return Decision::Abort(NO_OBJECT);
+    };
+    let row = objects::row_at(place);
+    match objects::entry_at(row.entries, sub) {
+        Some(Entry::Value(k)) => {
+            read_value(device, which, place + k as usize, row_after(place, row, k))
         }
+        Some(Entry::Fixed(byte)) => Decision::Read {
+            size: 1,
+            number: byte as u32,
+        },
+        None => Decision::Abort(NO_SUB_INDEX),
     }
 }
 
@@ -174,13 +171,13 @@ fn crosses(block: Block, place: usize, value: i64) -> bool
 
 // An object with this lock may not be written in this state.
 #[tactic(auto, unfolding(crate::specs::Decide::is_locked))]
-fn is_locked(lock: u8, state: u8) -> bool
+fn is_locked(lock: Lock, state: u8) -> bool
     ensures { result ≡ is_locked lock state }
 {
     match lock {
-        WHILE_ACTIVE => state == ACTIVE,
-        OUTSIDE_DISABLED => state != DISABLED,
-        _ => false,
+        Lock::Free => false,
+        Lock::WhileActive => state == ACTIVE,
+        Lock::OutsideDisabled => state != DISABLED,
     }
 }
 
@@ -274,23 +271,21 @@ pub fn decide_write(device: Device, index: u16, sub: u8, size: u8, number: u32) 
     requires { Sound device }
     ensures { result ≡ write_decision device index sub size number }
 {
-    match objects::place_of(index) {
-        Place::Nowhere => Decision::Abort(NO_OBJECT),
-        Place::At { which, place } => {
-            let row = objects::row_at(place);
-            match objects::entry_at(row.entries, sub) {
-                Entry::Value(k) => write_value(
-                    device,
-                    which,
-                    place + k as usize,
-                    row_after(place, row, k),
-                    size,
-                    number,
-                ),
-                Entry::Fixed(_) => Decision::Abort(READ_ONLY_ENTRY),
-                Entry::Missing => Decision::Abort(NO_SUB_INDEX),
-            }
-        }
+    let Some(Place { which, place }) = objects::place_of(index) else {
+        return Decision::Abort(NO_OBJECT);
+    };
+    let row = objects::row_at(place);
+    match objects::entry_at(row.entries, sub) {
+        Some(Entry::Value(k)) => write_value(
+            device,
+            which,
+            place + k as usize,
+            row_after(place, row, k),
+            size,
+            number,
+        ),
+        Some(Entry::Fixed(_)) => Decision::Abort(READ_ONLY_ENTRY),
+        None => Decision::Abort(NO_SUB_INDEX),
     }
 }
 

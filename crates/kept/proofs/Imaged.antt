@@ -1,6 +1,5 @@
 -- The stored image on our devices. The tagged lines are those of the rows of the stored settings, in their order: so what is stored, asked for and loaded
 -- place by place is what the rules say line by line, by induction over the lines.
-use Rattle.std.specs.Prelude.{if◌then◌else◌}
 use mathlib.Core.Bool.{Bool, true, false, ◌&&◌, and-true, and_assoc}
 use mathlib.Core.List.{List, [], ◌∷◌, ◌++◌, append-nil, append_assoc}
 use mathlib.Core.Logic.{◌≢◌}
@@ -17,8 +16,10 @@ use Rattle.integers.specs.Words.{each, ◌is◌, ◌below◌}
 use Rattle.integers.proofs.Cases.{by_cases, by_test, by_less, clash}
 use Rattle.integers.proofs.Each.{and_split, and_both, each_at}
 use Rattle.objects.specs.Places.{LOWER_LIMIT, UPPER_LIMIT, SETTINGS, SET_POINT, SELECTION, POSITION, PRESSURE}
-use Rattle.objects.specs.Table.{FREE, objects, is_signed, is_choice, row_at, lies_in, in_row}
+use Rattle.objects.specs.Table.{objects, is_signed, is_choice, row_at, lies_in, in_row}
 use Rattle.objects.specs.Lookup.{index_of}
+use Rattle.objects.specs.declared.Lock.{Lock}
+use Rattle.objects.specs.declared.Lock.TheVariants.{Free, WhileActive, OutsideDisabled}
 use Rattle.coding.specs.Bytes.{byte_at, two_bytes, four_bytes}
 use Rattle.block.specs.Block.{at, with_settings}
 use Rattle.block.specs.Sound.{sound_settings}
@@ -72,6 +73,12 @@ module _ (d : Device) (b : Block) (which : ℕ) where
 
 -- ---- the tagged lines are the rows of the stored settings
 
+-- the states in which a lock lets an object be written
+abbrev states_of : Lock → List ℕ
+states_of Free = 0 ∷ 1 ∷ 2 ∷ 3 ∷ []
+states_of WhileActive = 0 ∷ 1 ∷ 3 ∷ []
+states_of OutsideDisabled = 0 ∷ []
+
 -- the line of a setting, as its row has it
 abbrev line_of : ℕ → Line
 line_of place =
@@ -80,7 +87,7 @@ line_of place =
       sub = (row_at place).sub;
       kind = record { bytes = (row_at place).size; signed = (row_at place).signed; low = (row_at place).low; high = (row_at place).high };
       fresh = (row_at place).fresh;
-      writable = if (row_at place).lock is FREE then 0 ∷ 1 ∷ 2 ∷ 3 ∷ [] else 0 ∷ 1 ∷ 3 ∷ [];
+      writable = states_of (row_at place).lock;
     }
 
 -- those of n settings from a place on

@@ -1,4 +1,5 @@
 -- The sheet's lines and what an index and a sub-index name: they agree, by tests that are computed over the lines. An index without a line is that of no row.
+use Rattle.std.specs.Prelude.{Option, Some, None}
 use mathlib.Core.Bool.{Bool, true, false, not, ◌&&◌, ◌||◌}
 use mathlib.Core.List.{List, [], ◌∷◌}
 use mathlib.Core.Path.{◌≡◌, refl, sym, ◌∙◌}
@@ -16,7 +17,6 @@ use Rattle.objects.specs.Table.{objects, row_at, is_signed, is_choice}
 use Rattle.objects.specs.Lookup.{ABOVE, block_number, place_from, place_of, record_entry, entry_at, Object}
 use Rattle.objects.specs.declared.Columns.{Columns}
 use Rattle.objects.specs.declared.Place.{Place}
-use Rattle.objects.specs.declared.Place.TheVariants.{At, Nowhere}
 use Rattle.objects.proofs.Rules.{of_pressure, below_pressure, above_pressure}
 use Rattle.coding.specs.Coding.{span, number_of, in_span, value_of}
 use Rattle.dictionary.specs.Named.{Named, value, byte, nothing, located, named}
@@ -45,11 +45,11 @@ of_row P (row ∷ rows) index a h =
     (λ e. let q = eqb-true row.0 index e in rw (← q) both.0)
     (λ e. of_row P rows index both.1 (rw e at h))
 
-nowhere : (which place : ℕ) (rows : List Columns) (index : ℕ) → has_row rows index ≡ false → place_from which place rows index ≡ Nowhere
+nowhere : (place : ℕ) (rows : List Columns) (index : ℕ) → has_row rows index ≡ false → place_from place rows index ≡ None
 unfolding place_from
-nowhere which place [] index h = refl
-nowhere which place (row ∷ rows) index h =
-    by_cases (row.0 is index) (λ e. clash (rw e) h) (λ e. rw e (nowhere which (suc place) rows index (rw e at h)))
+nowhere place [] index h = refl
+nowhere place (row ∷ rows) index h =
+    by_cases (row.0 is index) (λ e. clash (rw e) h) (λ e. rw e (nowhere (suc place) rows index (rw e at h)))
 
 -- the rows' indexes have lines, and those of the position block 80h above too
 abbrev counterpart_listed : ℕ → Bool
@@ -77,11 +77,12 @@ module _ (index : ℕ) (h : has_entry index 0 ≡ false) where
       clash (rw (low, high, back) at (of_row counterpart_listed objects (index - ABOVE) counterparts_listed e)) h)
       (λ e. e)
 
-  no_place : place_of index ≡ Nowhere
+  no_place : place_of index ≡ None
   no_place =
-      by_less index 0x6380 (λ l. below_pressure index l ∙ nowhere _ 0 objects index no_row)
-      (λ l. by_less index 0x63C6 (λ m. of_pressure index l (omega arith) ∙ nowhere _ 0 objects (index - ABOVE) (no_counterpart l m))
-      (λ m. above_pressure index m ∙ nowhere _ 0 objects index no_row))
+      by_less index 0x6380 (λ l. rw (below_pressure index l, nowhere 0 objects index no_row))
+      (λ l. by_less index 0x63C6
+      (λ m. rw (of_pressure index l (omega arith), nowhere 0 objects (index - ABOVE) (no_counterpart l m)))
+      (λ m. rw (above_pressure index m, nowhere 0 objects index no_row)))
 
 pub no_object : (index sub : ℕ) → has_entry index 0 ≡ false → named index sub ≡ nothing 0x06020000
 unfolding named
@@ -107,18 +108,18 @@ subs_listed_lem : of_all (λ l. subs_listed l.index) sheet ≡ true
 unfolding sheet objects each named place_of place_from block_number entry_at record_entry
 subs_listed_lem = refl
 
-abbrev has_few : Place → Bool
-has_few (At which place) = (row_at place).entries below 5
-has_few Nowhere = false
+abbrev has_few : Option Place → Bool
+has_few (Some p) = (row_at p.place).entries below 5
+has_few None = false
 
 few_listed : of_all (λ l. has_few (place_of l.index)) sheet ≡ true
 unfolding sheet objects place_of place_from block_number
 few_listed = refl
 
-beyond : (sub : ℕ) → 5 ≤ sub → (p : Place) → has_few p ≡ true → located p sub ≡ nothing 0x06090011
+beyond : (sub : ℕ) → 5 ≤ sub → (found : Option Place) → has_few found ≡ true → located found sub ≡ nothing 0x06090011
 unfolding entry_at
-beyond sub h (At which place) e = let few = ltb-true (row_at place).entries 5 e in rw (lt-ltb (row_at place).entries sub (omega arith))
-beyond sub h Nowhere e = clash e refl
+beyond sub h (Some p) e = let few = ltb-true (row_at p.place).entries 5 e in rw (lt-ltb (row_at p.place).entries sub (omega arith))
+beyond sub h None e = clash e refl
 
 pub no_entry : (index sub : ℕ) → has_entry index 0 ≡ true → has_entry index sub ≡ false → named index sub ≡ nothing 0x06090011
 no_entry index sub h n =

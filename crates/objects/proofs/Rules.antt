@@ -1,6 +1,7 @@
 -- The table's rules, each by a test that is computed over the rows.
 use mathlib.Core.Path.{◌≡◌, refl, sym, ap, ◌∙◌}
-use mathlib.Core.Bool.{Bool, true, false, not, cond, ◌&&◌, ◌||◌, or-false}
+use mathlib.Core.Bool.{true, false, not, cond, ◌&&◌, ◌||◌, or-false}
+use Rattle.std.specs.Prelude.{Option, Some, None}
 use mathlib.Core.List.{List, [], ◌∷◌}
 use Prim.Native.Nat.{ℕ, zero, suc, ◌+◌, ◌-◌, ◌*◌, ◌≤◌, ◌<◌}
 use native.Mathlib.Omega.{arith}
@@ -17,11 +18,12 @@ use Rattle.integers.proofs.Each.{and_split, and_both, each_at}
 use Rattle.integers.proofs.Machine.{=?-yes}
 use lib.Dec.{eqb, ltb}
 use Rattle.objects.specs.Places.{SETTINGS, RECEIVE_MAP, TRANSMIT_MAP, WRITABLE, ROWS, POSITION, PRESSURE}
-use Rattle.objects.specs.Table.{VARIABLE, MAP, I8, U32, U8, objects, columns_at, row_at, lies_in}
-use Rattle.objects.specs.Lookup.{ABOVE, block_number, place_from, place_of, is_of_block, Object, record_entry, entry_at}
+use Rattle.objects.specs.Table.{VARIABLE, MAP, objects, columns_at, row_at, lies_in}
+use Rattle.objects.specs.Lookup.{ABOVE, block_number, place_from, in_block, place_of, is_of_block, Object, record_entry, entry_at}
 use Rattle.objects.specs.declared.Columns.{Columns}
+use Rattle.objects.specs.declared.Kind.{Kind}
+use Rattle.objects.specs.declared.Kind.TheVariants.{I8, I16, U16, U32, U8}
 use Rattle.objects.specs.declared.Place.{Place}
-use Rattle.objects.specs.declared.Place.TheVariants.{At, Nowhere}
 use Rattle.objects.specs.declared.Entry.{Entry}
 use Rattle.objects.specs.declared.Entry.TheVariants.{Value}
 
@@ -37,22 +39,6 @@ within_lies {low} {high} {x} w =
     let p : le_z low x ≡ true = omega (arith, ints) in
     let q : le_z x high ≡ true = omega (arith, ints) in
     and_both p q
-
--- ---- places
-
--- found at a place, of whatever block
-abbrev pub is_at : Place → ℕ → Bool
-is_at (At which place) k = place is k
-is_at Nowhere k = false
-
--- the place is the same for each block
-is_at_lem : (which place : ℕ) (rows : List Columns) (index k : ℕ) → is_at (place_from POSITION place rows index) k ≡ true → place_from which place rows index ≡ At which k
-unfolding place_from
-is_at_lem which place [] index k e = let z : false ≡ true = e in cc
-is_at_lem which place (row ∷ rows) index k e =
-    by_cases (row.0 is index)
-    (λ f. rw f (ap (At which) (eqb-true place k (rw f at e))))
-    (λ f. rw f (is_at_lem which (suc place) rows index k (rw f at e)))
 
 -- ---- the rows of a map
 
@@ -87,21 +73,15 @@ map_index first index t place h k =
     let same : (row_at (first + (place - first))).index ≡ index = eqb-true _ _ (each_at 5 (λ j. (row_at (first + j)).index is index) (place - first) t (omega arith)) in
     rw e at same
 
--- a run of n consecutive indexes, in consecutive rows: the test over it is computed
-pub run_is_found : {which : ℕ} (place from n : ℕ) → each n (λ j. is_at (place_from POSITION 0 objects (from + j)) (place + j)) ≡ true → (index : ℕ) → from ≤ index → index < from + n → place_from which 0 objects index ≡ At which (place + (index - from))
-run_is_found {which} place from n t index h k =
-    let e : index ≡ from + (index - from) = omega arith in
-    ap (place_from which 0 objects) e ∙ is_at_lem which 0 objects (from + (index - from)) (place + (index - from)) (each_at n (λ j. is_at (place_from POSITION 0 objects (from + j)) (place + j)) (index - from) t (omega arith))
-
 -- no row has this index
 abbrev pub Absent : List Columns → ℕ → Type 0
 Absent [] index = Unit {0}
 Absent (row ∷ rows) index = (row.0 ≡ index → ⊥) × Absent rows index
 
-absent_from : (which place : ℕ) (rows : List Columns) (index : ℕ) → Absent rows index → place_from which place rows index ≡ Nowhere
+absent_from : (place : ℕ) (rows : List Columns) (index : ℕ) → Absent rows index → place_from place rows index ≡ None
 unfolding place_from
-absent_from which place [] index h = refl
-absent_from which place (row ∷ rows) index h = rw (ne_eqb row.0 index h.0) (absent_from which (suc place) rows index h.1)
+absent_from place [] index h = refl
+absent_from place (row ∷ rows) index h = rw (ne_eqb row.0 index h.0) (absent_from (suc place) rows index h.1)
 
 absent_both : (n : ℕ) (rows : List Columns) (index : ℕ) → Absent (take n rows) index → Absent (drop n rows) index → Absent rows index
 absent_both zero rows index p q = q
@@ -109,8 +89,8 @@ absent_both (suc n) [] index p q = tt
 absent_both (suc n) (row ∷ rows) index p q = (p.0, absent_both n rows index p.1 q)
 
 -- an index that no row has, neither of the stored settings nor after them, is found nowhere
-pub no_other_index : (which index : ℕ) → Absent (take SETTINGS objects) index → Absent (drop SETTINGS objects) index → place_from which 0 objects index ≡ Nowhere
-no_other_index which index h k = absent_from which 0 objects index (absent_both SETTINGS objects index h k)
+pub no_other_index : (index : ℕ) → Absent (take SETTINGS objects) index → Absent (drop SETTINGS objects) index → place_from 0 objects index ≡ None
+no_other_index index h k = absent_from 0 objects index (absent_both SETTINGS objects index h k)
 
 -- ---- blocks
 
@@ -119,33 +99,32 @@ module _ (index : ℕ) where
   sub_zero : index - 0 ≡ index
   sub_zero = omega arith
 
-  pub of_pressure : 0x6380 ≤ index → index ≤ 0x63C5 → place_of index ≡ place_from PRESSURE 0 objects (index - ABOVE)
+  pub of_pressure : 0x6380 ≤ index → index ≤ 0x63C5 → place_of index ≡ in_block PRESSURE (place_from 0 objects (index - ABOVE))
   unfolding place_of block_number
   of_pressure h k = rw (le-ltb index 0x6380 h, lt-ltb index 0x63C6 (omega arith))
 
-  pub below_pressure : index < 0x6380 → place_of index ≡ place_from POSITION 0 objects index
+  pub below_pressure : index < 0x6380 → place_of index ≡ in_block POSITION (place_from 0 objects index)
   unfolding place_of block_number
   below_pressure h = rw (lt-ltb index 0x6380 h, sub_zero)
 
-  pub above_pressure : 0x63C6 ≤ index → place_of index ≡ place_from POSITION 0 objects index
+  pub above_pressure : 0x63C6 ≤ index → place_of index ≡ in_block POSITION (place_from 0 objects index)
   unfolding place_of block_number
   above_pressure h = rw (le-ltb index 0x6380 (omega arith), le-ltb index 0x63C6 h, sub_zero)
 
 -- the same place, of the pressure block
-abbrev pub in_pressure : Place → Place
-in_pressure (At which place) = At PRESSURE place
-in_pressure Nowhere = Nowhere
+abbrev pub in_pressure : Option Place → Option Place
+in_pressure (Some p) = in_block PRESSURE (Some p.place)
+in_pressure None = None
 
-pressure_from : (place : ℕ) (rows : List Columns) (index : ℕ) → place_from PRESSURE place rows index ≡ in_pressure (place_from POSITION place rows index)
-unfolding place_from
-pressure_from place [] index = refl
-pressure_from place (row ∷ rows) index = by_cases (row.0 is index) (λ e. rw e) (λ e. rw e (pressure_from (suc place) rows index))
+pressure_from : (found : Option ℕ) → in_block PRESSURE found ≡ in_pressure (in_block POSITION found)
+pressure_from (Some place) = refl
+pressure_from None = refl
 
 -- so 80h above an index of the position block stands its counterpart
 pub counterpart_place : (index : ℕ) → 0x6300 ≤ index → index ≤ 0x6345 → place_of (index + ABOVE) ≡ in_pressure (place_of index)
 counterpart_place index h k =
     let back : index + ABOVE - ABOVE ≡ index = omega arith in
-    rw (of_pressure (index + ABOVE) (omega arith) (omega arith), back, below_pressure index (omega arith)) (pressure_from 0 objects index)
+    rw (of_pressure (index + ABOVE) (omega arith) (omega arith), back, below_pressure index (omega arith)) (pressure_from (place_from 0 objects index))
 
 -- an index is of one of the two blocks, and its counterpart's is not below 0
 pub block_most : (index : ℕ) → block_number index ≤ PRESSURE
@@ -158,26 +137,31 @@ counterpart_fits index =
     by_test (λ n. ABOVE * n ≤ index) (not (ltb index 0x6380) && ltb index 0x63C6)
     (λ e. omega (arith, ltb-false index 0x6380 (not-true _ (and_split (not (ltb index 0x6380)) (ltb index 0x63C6) e).0))) (λ e. omega arith)
 
--- a place that was found is within the table, of the block for which it is searched, and its row has the index
-record FoundFrom (which place : ℕ) (rows : List Columns) (index w k : ℕ) : Type 0 where
-  block : w ≡ which
+-- what was found of a block is a place of that block
+found_of : (which : ℕ) (found : Option ℕ) (p : Place) → in_block which found ≡ Some p → (p.which ≡ which) × (found ≡ Some p.place)
+found_of which (Some place) p e =
+    let same : record { which = which; place = place } ≡ p = cc in
+    (ap (λ (q : Place). q.which) (sym same), ap (λ (q : Place). Some q.place) same)
+found_of which None p e = apart (cc)
+
+-- a place that was found is within the table, and its row has the index
+record FoundFrom (place : ℕ) (rows : List Columns) (index k : ℕ) : Type 0 where
   from : place ≤ k
   below : k < place + length rows
   indexed : (get_or rows (k - place) (columns_at ROWS)).0 ≡ index
 
-found_from : (which place : ℕ) (rows : List Columns) (index w k : ℕ) → place_from which place rows index ≡ At w k → FoundFrom which place rows index w k
+found_from : (place : ℕ) (rows : List Columns) (index k : ℕ) → place_from place rows index ≡ Some k → FoundFrom place rows index k
 unfolding place_from
-found_from which place [] index w k e = apart (cc)
-found_from which place (row ∷ rows) index w k e =
+found_from place [] index k e = apart (cc)
+found_from place (row ∷ rows) index k e =
     by_cases (row.0 is index)
-    (λ f. let z : At which place ≡ At w k = (rw f at e) in
-    let b : which ≡ w = cc in
+    (λ f. let z : Some place ≡ Some k = (rw f at e) in
     let s : place ≡ k = cc in
     let first : k - place ≡ 0 = omega arith in
-    record { block = sym b; from = omega arith; below = omega arith; indexed = rw first (eqb-true row.0 index f) })
-    (λ f. let r = found_from which (suc place) rows index w k (rw f at e) in
+    record { from = omega arith; below = omega arith; indexed = rw first (eqb-true row.0 index f) })
+    (λ f. let r = found_from (suc place) rows index k (rw f at e) in
     let later : k - place ≡ suc (k - suc place) = omega (arith, r.from) in
-    record { block = r.block; from = omega (arith, r.from); below = omega (arith, r.below); indexed = rw later r.indexed })
+    record { from = omega (arith, r.from); below = omega (arith, r.below); indexed = rw later r.indexed })
 
 -- the objects of the table that the position block does not have stand outside the indexes whose counterparts are the pressure block's
 counterpart : (place : ℕ) → place < ROWS → 0x6300 ≤ (row_at place).index → (row_at place).index < 0x6346 → is_of_block place ≡ true
@@ -187,63 +171,73 @@ counterpart place h l m =
     (each_at ROWS (λ k. ltb (row_at k).index 0x6300 || not (ltb (row_at k).index 0x6346) || is_of_block k) place refl h)
 
 -- so what is found is an object
-pub found_object : (index which place : ℕ) → place_of index ≡ At which place → Object which place
+pub found_object : (index : ℕ) (p : Place) → place_of index ≡ Some p → Object p.which p.place
 unfolding objects
-found_object index which place e =
+found_object index p e =
     by_less index 0x6380 (λ h. single (sym (below_pressure index h) ∙ e))
     (λ h. by_less index 0x63C6
     (λ k.
-    let f = found_from PRESSURE 0 objects (index - ABOVE) which place (sym (of_pressure index h (omega arith)) ∙ e) in
-    let i : (row_at place).index ≡ index - ABOVE = simp unary_clauses at f.indexed in
-    record { row = f.below; block = omega (arith, f.block); own = λ _. counterpart place f.below (omega arith) (omega arith) })
+    let found = found_of PRESSURE (place_from 0 objects (index - ABOVE)) p (sym (of_pressure index h (omega arith)) ∙ e) in
+    let f = found_from 0 objects (index - ABOVE) p.place found.1 in
+    let i : (row_at p.place).index ≡ index - ABOVE = simp unary_clauses at f.indexed in
+    record { row = f.below; block = omega (arith, found.0); own = λ _. counterpart p.place f.below (omega arith) (omega arith) })
     (λ k. single (sym (above_pressure index k) ∙ e)))
   where
-    single : place_from POSITION 0 objects index ≡ At which place → Object which place
-    single e = let f = found_from POSITION 0 objects index which place e in record { row = f.below; block = omega (arith, f.block); own = λ q. absurd (omega (arith, f.block)) }
+    single : in_block POSITION (place_from 0 objects index) ≡ Some p → Object p.which p.place
+    single e =
+        let found = found_of POSITION (place_from 0 objects index) p e in
+        record { row = (found_from 0 objects index p.place found.1).below; block = omega (arith, found.0); own = λ q. absurd (omega (arith, found.0)) }
 
 -- and below 6380h none is of the pressure block
-pub found_in_position : (index which place : ℕ) → index < 0x6380 → place_of index ≡ At which place → which ≡ POSITION
+pub found_in_position : (index : ℕ) (p : Place) → index < 0x6380 → place_of index ≡ Some p → p.which ≡ POSITION
 unfolding objects
-found_in_position index which place h e = (found_from POSITION 0 objects index which place (sym (below_pressure index h) ∙ e)).block
+found_in_position index p h e = (found_of POSITION (place_from 0 objects index) p (sym (below_pressure index h) ∙ e)).0
 
-pub found_below : (index which place : ℕ) → place_of index ≡ At which place → place < ROWS
-found_below index which place e = (found_object index which place e).row
+pub found_below : (index : ℕ) (p : Place) → place_of index ≡ Some p → p.place < ROWS
+found_below index p e = (found_object index p e).row
+
+-- a record that is no map has one value
+record_value : (entries sub k : ℕ) → Some (record_entry entries sub) ≡ Some (Value k) → k ≡ 0
+unfolding record_entry
+record_value entries sub k =
+    by_test P (eqb sub 0) (λ z e. apart (cc))
+    (λ z. by_test P (eqb sub 1) (λ o e. let same : 0 ≡ k = cc in sym same)
+    (λ o. by_test P (eqb sub 2) (λ q e. apart (cc)) (λ q e. apart (cc))))
+  where
+    P : Entry → Type 0
+    P e = Some e ≡ Some (Value k) → k ≡ 0
 
 -- the values of a found object are within the table: where it has more than one, it has no more than its entries
-pub value_below : (place sub k : ℕ) → place < ROWS → entry_at (row_at place).entries sub ≡ Value k → place + k < ROWS
-unfolding entry_at record_entry each objects
+pub value_below : (place sub k : ℕ) → place < ROWS → entry_at (row_at place).entries sub ≡ Some (Value k) → place + k < ROWS
+unfolding entry_at each objects
 value_below place sub k h =
     by_test P (ltb n sub) (λ t e. apart (cc))
     (λ t. by_test P (eqb n VARIABLE || eqb n MAP) (λ m e. let same : sub ≡ k = cc in let most = ltb-false n sub t in omega (arith, ltb-true (place + n) ROWS (several m)))
-    (λ m. by_test P (eqb sub 0) (λ z e. apart (cc))
-    (λ z. by_test P (eqb sub 1) (λ o e. let same : 0 ≡ k = cc in omega arith)
-    (λ o. by_test P (eqb sub 2) (λ q e. apart (cc)) (λ q e. apart (cc))))))
+    (λ m e. omega (arith, record_value n sub k e)))
   where
     n : ℕ
     n = (row_at place).entries
 
-    P : Entry → Type 0
-    P e = e ≡ Value k → place + k < ROWS
+    P : Option Entry → Type 0
+    P e = e ≡ Some (Value k) → place + k < ROWS
 
     several : (eqb n VARIABLE || eqb n MAP) ≡ true → ltb (place + n) ROWS ≡ true
     several m = rw m at (each_at ROWS (λ p. not (eqb (row_at p).entries VARIABLE || eqb (row_at p).entries MAP) || ltb (p + (row_at p).entries) ROWS) place refl h)
 
 -- but of a map an object has one value
-one_value : (entries sub k : ℕ) → entries is MAP ≡ false → entry_at entries sub ≡ Value k → k ≡ 0
-unfolding entry_at record_entry
+one_value : (entries sub k : ℕ) → entries is MAP ≡ false → entry_at entries sub ≡ Some (Value k) → k ≡ 0
+unfolding entry_at
 one_value entries sub k n =
     by_test P (ltb entries sub) (λ t e. apart (cc))
     (λ t. by_test P (eqb entries VARIABLE || eqb entries MAP)
     (λ m e. let same : sub ≡ k = cc in let none = eqb-true entries VARIABLE (rw (n, or-false) at m) in omega (arith, ltb-false entries sub t))
-    (λ m. by_test P (eqb sub 0) (λ z e. apart (cc))
-    (λ z. by_test P (eqb sub 1) (λ o e. let same : 0 ≡ k = cc in omega arith)
-    (λ o. by_test P (eqb sub 2) (λ q e. apart (cc)) (λ q e. apart (cc))))))
+    (λ m e. record_value entries sub k e))
   where
-    P : Entry → Type 0
-    P e = e ≡ Value k → k ≡ 0
+    P : Option Entry → Type 0
+    P e = e ≡ Some (Value k) → k ≡ 0
 
 -- so each value of an object is one too
-pub value_object : (which place sub k : ℕ) → Object which place → entry_at (row_at place).entries sub ≡ Value k → Object which (place + k)
+pub value_object : (which place sub k : ℕ) → Object which place → entry_at (row_at place).entries sub ≡ Some (Value k) → Object which (place + k)
 unfolding each objects is_of_block
 value_object which place sub k o e = record { row = value_below place sub k o.row e; block = o.block; own = own }
   where
@@ -265,8 +259,12 @@ unfolding each objects
 below_writable place h = each_at WRITABLE (λ k. (row_at k).writable) place refl h
 
 -- a type's bytes
-abbrev type_size : ℕ → ℕ
-type_size kind = cond (kind is I8 || kind is U8) 1 (cond (kind is U32) 4 2)
+abbrev type_size : Kind → ℕ
+type_size I8 = 1
+type_size I16 = 2
+type_size U16 = 2
+type_size U32 = 4
+type_size U8 = 1
 
 -- the size of each row is that of its type
 pub size_of_type : (place : ℕ) → place < ROWS → (row_at place).size ≡ type_size (columns_at place).3

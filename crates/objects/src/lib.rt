@@ -1,10 +1,14 @@
 #![tactic(auto)]
 // The object table of document 01, with the maps, the dither and the two blocks of document 02. What is read, written, kept sound, stored and loaded goes by its rows.
-ghost use Rattle.std.specs.Prelude.{◌≡◌, ◌+◌, ◌-◌};
+ghost use Rattle.std.specs.Prelude.{◌≡◌};
 ghost use Rattle.objects.specs.Table.{objects, columns_at, row_at, lies_in, in_row};
 ghost use Rattle.objects.specs.Table as Table;
 ghost use Rattle.objects.specs.Lookup.{block_number, place_from, place_of, record_entry, entry_at};
-ghost use Rattle.objects.specs.Asked.{InTable, InRun, InBlock};
+ghost use Rattle.objects.specs.Asked.{InTable};
+
+use Access::{Ro, Rw};
+use Kind::{I8, I16, U8, U16, U32};
+use Lock::{Free, OutsideDisabled, WhileActive};
 
 pub mod index;
 
@@ -32,7 +36,7 @@ pub struct Row {
     pub sub: u8,
     pub entries: u8,
     pub size: u8,
-    pub lock: u8,
+    pub lock: Lock,
     pub signed: bool,
     pub writable: bool,
     pub choice: bool,
@@ -114,13 +118,13 @@ pub struct Columns(
     pub u16,
     pub u8,
     pub u8,
+    pub Kind,
     pub u8,
-    pub u8,
-    pub u8,
+    pub Access,
     pub i64,
     pub i64,
     pub i64,
-    pub u8,
+    pub Lock,
 );
 
 // The entries: a variable has none, a record one, a time three, a map four.
@@ -132,70 +136,72 @@ const TIME: u8 = 3;
 
 const MAP: u8 = 4;
 
-// The types.
-const I8: u8 = 0;
+// The types, as the table names them.
+#[derive(Clone, Copy)]
+pub enum Kind {
+    I8,
+    I16,
+    U16,
+    U32,
+    U8,
+}
 
-const I16: u8 = 1;
-
-const U16: u8 = 2;
-
-const U32: u8 = 3;
-
-const U8: u8 = 4;
-
-// The access: read only, or read and written.
-const RO: u8 = 0;
-
-const RW: u8 = 1;
+// The access, abbreviated as in object dictionaries: read only, or read and written.
+#[derive(Clone, Copy)]
+pub enum Access {
+    Ro,
+    Rw,
+}
 
 // The lock: an object that can be written in every state, in all but ACTIVE, or in DISABLED alone.
-pub const FREE: u8 = 0;
-
-pub const WHILE_ACTIVE: u8 = 1;
-
-pub const OUTSIDE_DISABLED: u8 = 2;
+#[derive(Clone, Copy)]
+pub enum Lock {
+    Free,
+    WhileActive,
+    OutsideDisabled,
+}
 
 const OBJECTS: [Columns; ROWS] = [
-    Columns(0x6314, 1, RECORD, I16, 2, RW, -32768, 32767, 0, FREE), // hold set point
-    Columns(0x6320, 1, RECORD, I16, 2, RW, -32768, 32767, 16384, FREE), // upper limit
-    Columns(0x6321, 1, RECORD, I16, 2, RW, -32768, 32767, -16384, FREE), // lower limit
-    Columns(0x6322, 0, VARIABLE, U32, 4, RW, 0, 4294967295, 65536, FREE), // scaling factor
-    Columns(0x6323, 1, RECORD, I16, 2, RW, -32768, 32767, 0, FREE), // scaling offset
-    Columns(0x6324, 1, RECORD, I16, 2, RW, -32768, 32767, 0, FREE), // zero correction
-    Columns(0x6330, 0, VARIABLE, I8, 1, RW, 0, 3, 0, WHILE_ACTIVE), // ramp type
-    Columns(0x6331, 1, TIME, U32, 4, RW, 0, 3600000, 0, WHILE_ACTIVE), // acceleration time: one
-    Columns(0x6332, 1, TIME, U32, 4, RW, 0, 3600000, 0, WHILE_ACTIVE), // positive
-    Columns(0x6333, 1, TIME, U32, 4, RW, 0, 3600000, 0, WHILE_ACTIVE), // negative
-    Columns(0x6334, 1, TIME, U32, 4, RW, 0, 3600000, 0, WHILE_ACTIVE), // deceleration time: one
-    Columns(0x6335, 1, TIME, U32, 4, RW, 0, 3600000, 0, WHILE_ACTIVE), // positive
-    Columns(0x6336, 1, TIME, U32, 4, RW, 0, 3600000, 0, WHILE_ACTIVE), // negative
-    Columns(0x6342, 0, VARIABLE, I8, 1, RW, 0, 1, 0, WHILE_ACTIVE), // dead band type
-    Columns(0x6343, 1, RECORD, I16, 2, RW, 0, 4096, 0, WHILE_ACTIVE), // dead band A side
-    Columns(0x6344, 1, RECORD, I16, 2, RW, 0, 4096, 0, WHILE_ACTIVE), // dead band B side
-    Columns(0x6345, 1, RECORD, I16, 2, RW, 0, 16384, 0, WHILE_ACTIVE), // dead band threshold
-    Columns(0x6360, 0, VARIABLE, I8, 1, RW, 0, 2, 0, WHILE_ACTIVE), // dither type
-    Columns(0x6361, 1, RECORD, U16, 2, RW, 0, 1024, 0, WHILE_ACTIVE), // dither amplitude
-    Columns(0x6362, 1, RECORD, U16, 2, RW, 0, 250, 0, WHILE_ACTIVE), // dither frequency
-    Columns(0x1600, 0, MAP, U8, 1, RW, 0, 255, 0, FREE), // receive map: number of entries
-    Columns(0x1600, 1, MAP, U32, 4, RW, 0, 4294967295, 0, FREE), // entry 1
-    Columns(0x1600, 2, MAP, U32, 4, RW, 0, 4294967295, 0, FREE), // entry 2
-    Columns(0x1600, 3, MAP, U32, 4, RW, 0, 4294967295, 0, FREE), // entry 3
-    Columns(0x1600, 4, MAP, U32, 4, RW, 0, 4294967295, 0, FREE), // entry 4
-    Columns(0x1A00, 0, MAP, U8, 1, RW, 0, 255, 0, FREE), // transmit map: number of entries
-    Columns(0x1A00, 1, MAP, U32, 4, RW, 0, 4294967295, 0, FREE), // entry 1
-    Columns(0x1A00, 2, MAP, U32, 4, RW, 0, 4294967295, 0, FREE), // entry 2
-    Columns(0x1A00, 3, MAP, U32, 4, RW, 0, 4294967295, 0, FREE), // entry 3
-    Columns(0x1A00, 4, MAP, U32, 4, RW, 0, 4294967295, 0, FREE), // entry 4
-    Columns(0x6300, 1, RECORD, I16, 2, RW, -32768, 32767, 0, FREE), // set point
-    Columns(0x2000, 0, VARIABLE, U8, 1, RW, 0, 1, 0, OUTSIDE_DISABLED), // selection
-    Columns(0x6040, 0, VARIABLE, U16, 2, RW, 0, 65535, 0, FREE), // control word
-    Columns(0x6041, 0, VARIABLE, U16, 2, RO, 0, 65535, 0, FREE), // status word
-    Columns(0x604E, 0, VARIABLE, U16, 2, RO, 0, 65535, 0, FREE), // error code
-    Columns(0x6310, 1, RECORD, I16, 2, RO, -32768, 32767, 0, FREE), // command
+    Columns(0x6314, 1, RECORD, I16, 2, Rw, -32768, 32767, 0, Free), // hold set point
+    Columns(0x6320, 1, RECORD, I16, 2, Rw, -32768, 32767, 16384, Free), // upper limit
+    Columns(0x6321, 1, RECORD, I16, 2, Rw, -32768, 32767, -16384, Free), // lower limit
+    Columns(0x6322, 0, VARIABLE, U32, 4, Rw, 0, 4294967295, 65536, Free), // scaling factor
+    Columns(0x6323, 1, RECORD, I16, 2, Rw, -32768, 32767, 0, Free), // scaling offset
+    Columns(0x6324, 1, RECORD, I16, 2, Rw, -32768, 32767, 0, Free), // zero correction
+    Columns(0x6330, 0, VARIABLE, I8, 1, Rw, 0, 3, 0, WhileActive), // ramp type
+    Columns(0x6331, 1, TIME, U32, 4, Rw, 0, 3600000, 0, WhileActive), // acceleration time: one
+    Columns(0x6332, 1, TIME, U32, 4, Rw, 0, 3600000, 0, WhileActive), // positive
+    Columns(0x6333, 1, TIME, U32, 4, Rw, 0, 3600000, 0, WhileActive), // negative
+    Columns(0x6334, 1, TIME, U32, 4, Rw, 0, 3600000, 0, WhileActive), // deceleration time: one
+    Columns(0x6335, 1, TIME, U32, 4, Rw, 0, 3600000, 0, WhileActive), // positive
+    Columns(0x6336, 1, TIME, U32, 4, Rw, 0, 3600000, 0, WhileActive), // negative
+    Columns(0x6342, 0, VARIABLE, I8, 1, Rw, 0, 1, 0, WhileActive), // dead band type
+    Columns(0x6343, 1, RECORD, I16, 2, Rw, 0, 4096, 0, WhileActive), // dead band A side
+    Columns(0x6344, 1, RECORD, I16, 2, Rw, 0, 4096, 0, WhileActive), // dead band B side
+    Columns(0x6345, 1, RECORD, I16, 2, Rw, 0, 16384, 0, WhileActive), // dead band threshold
+    Columns(0x6360, 0, VARIABLE, I8, 1, Rw, 0, 2, 0, WhileActive), // dither type
+    Columns(0x6361, 1, RECORD, U16, 2, Rw, 0, 1024, 0, WhileActive), // dither amplitude
+    Columns(0x6362, 1, RECORD, U16, 2, Rw, 0, 250, 0, WhileActive), // dither frequency
+    Columns(0x1600, 0, MAP, U8, 1, Rw, 0, 255, 0, Free), // receive map: number of entries
+    Columns(0x1600, 1, MAP, U32, 4, Rw, 0, 4294967295, 0, Free), // entry 1
+    Columns(0x1600, 2, MAP, U32, 4, Rw, 0, 4294967295, 0, Free), // entry 2
+    Columns(0x1600, 3, MAP, U32, 4, Rw, 0, 4294967295, 0, Free), // entry 3
+    Columns(0x1600, 4, MAP, U32, 4, Rw, 0, 4294967295, 0, Free), // entry 4
+    Columns(0x1A00, 0, MAP, U8, 1, Rw, 0, 255, 0, Free), // transmit map: number of entries
+    Columns(0x1A00, 1, MAP, U32, 4, Rw, 0, 4294967295, 0, Free), // entry 1
+    Columns(0x1A00, 2, MAP, U32, 4, Rw, 0, 4294967295, 0, Free), // entry 2
+    Columns(0x1A00, 3, MAP, U32, 4, Rw, 0, 4294967295, 0, Free), // entry 3
+    Columns(0x1A00, 4, MAP, U32, 4, Rw, 0, 4294967295, 0, Free), // entry 4
+    Columns(0x6300, 1, RECORD, I16, 2, Rw, -32768, 32767, 0, Free), // set point
+    Columns(0x2000, 0, VARIABLE, U8, 1, Rw, 0, 1, 0, OutsideDisabled), // selection
+    Columns(0x6040, 0, VARIABLE, U16, 2, Rw, 0, 65535, 0, Free), // control word
+    Columns(0x6041, 0, VARIABLE, U16, 2, Ro, 0, 65535, 0, Free), // status word
+    Columns(0x604E, 0, VARIABLE, U16, 2, Ro, 0, 65535, 0, Free), // error code
+    Columns(0x6310, 1, RECORD, I16, 2, Ro, -32768, 32767, 0, Free), // command
 ];
 
-// The columns at a place. Only this function reads the table: an arm for each row, since a place that is not known beforehand would
-// have the whole array written out first.
+// The columns at a place. Only this function reads the table: an arm for each row, since the index of an array, also of a `static`, costs
+// every call of the library a hundred instructions more, in its test of the ranges.
 #[tactic(auto, unfolding(crate::specs::Table::objects))]
 fn columns_at(place: usize) -> Columns
     requires { InTable place }
@@ -243,10 +249,16 @@ fn columns_at(place: usize) -> Columns
 }
 
 #[tactic(auto, unfolding(crate::specs::Table::is_signed))]
-fn is_signed(kind: u8) -> bool
+fn is_signed(kind: Kind) -> bool
     ensures { result ≡ Table.is_signed kind }
 {
-    kind == I8 || kind == I16
+    matches!(kind, I8 | I16)
+}
+
+fn is_writable(access: Access) -> bool
+    ensures { result ≡ Table.is_writable access }
+{
+    matches!(access, Rw)
 }
 
 // A choice among numbered kinds, of which too high and too low are the same mistake.
@@ -276,7 +288,7 @@ pub fn row_at(place: usize) -> Row
         size: columns.4,
         lock: columns.9,
         signed: is_signed(columns.3),
-        writable: columns.5 == RW,
+        writable: is_writable(columns.5),
         choice: is_choice(place),
     }
 }
@@ -340,75 +352,31 @@ pub fn index_of(place: usize) -> u16
 
 // Of which block an index is, and where it stands in the table: its first row.
 #[derive(Clone, Copy)]
-pub enum Place {
-    At { which: u8, place: usize },
-    Nowhere,
+pub struct Place {
+    pub which: u8,
+    pub place: usize,
 }
 
-// The place of an index in a run of consecutive ones that begins at this place and index.
-fn in_run(which: u8, place: usize, from: u16, index: u16) -> Place
-    requires { InRun place from index }
-    ensures { result ≡ Place.At which (place + (index - from)) }
-{
-    Place::At {
-        which,
-        place: place + (index - from) as usize,
-    }
-}
-
-// The place of an object of a block, by its index in the position block. The objects stand in runs of consecutive indexes, and so do
-// their rows.
+// The place of an object, by its index or that of its counterpart. The objects stand in runs of consecutive indexes, and so do their
+// rows.
 #[tactic(auto, unfolding(crate::specs::Table::objects, crate::specs::Lookup::place_from, integers::specs::Words::each))]
-fn own_place(which: u8, index: u16) -> Place
-    requires { InBlock index }
-    ensures { result ≡ place_from which 0 objects index }
+fn place_in(index: u16) -> Option<usize>
+    ensures { result ≡ place_from 0 objects index }
 {
     match index {
-        0x6300 => Place::At {
-            which,
-            place: SET_POINT,
-        },
-        0x6310 => Place::At {
-            which,
-            place: COMMAND,
-        },
-        0x6314 => Place::At {
-            which,
-            place: HOLD_SET_POINT,
-        },
-        0x6320..=0x6324 => in_run(which, UPPER_LIMIT, 0x6320, index),
-        0x6330..=0x6336 => in_run(which, RAMP_TYPE, 0x6330, index),
-        0x6342..=0x6345 => in_run(which, DEAD_BAND_TYPE, 0x6342, index),
-        _ => Place::Nowhere,
-    }
-}
-
-// The place of any object, by its index or that of its counterpart.
-#[tactic(auto, unfolding(crate::specs::Table::objects, crate::specs::Lookup::place_from, integers::specs::Words::each))]
-fn place_in(which: u8, index: u16) -> Place
-    ensures { result ≡ place_from which 0 objects index }
-{
-    match index {
-        0x1600 => Place::At {
-            which,
-            place: RECEIVE_MAP,
-        },
-        0x1A00 => Place::At {
-            which,
-            place: TRANSMIT_MAP,
-        },
-        0x2000 => Place::At {
-            which,
-            place: SELECTION,
-        },
-        0x6040..=0x6041 => in_run(which, CONTROL_WORD, 0x6040, index),
-        0x604E => Place::At {
-            which,
-            place: ERROR_CODE,
-        },
-        0x6300..=0x6345 => own_place(which, index),
-        0x6360..=0x6362 => in_run(which, DITHER_TYPE, 0x6360, index),
-        _ => Place::Nowhere,
+        0x1600 => Some(RECEIVE_MAP),
+        0x1A00 => Some(TRANSMIT_MAP),
+        0x2000 => Some(SELECTION),
+        0x6040..=0x6041 => Some(CONTROL_WORD + (index - 0x6040) as usize),
+        0x604E => Some(ERROR_CODE),
+        0x6300 => Some(SET_POINT),
+        0x6310 => Some(COMMAND),
+        0x6314 => Some(HOLD_SET_POINT),
+        0x6320..=0x6324 => Some(UPPER_LIMIT + (index - 0x6320) as usize),
+        0x6330..=0x6336 => Some(RAMP_TYPE + (index - 0x6330) as usize),
+        0x6342..=0x6345 => Some(DEAD_BAND_TYPE + (index - 0x6342) as usize),
+        0x6360..=0x6362 => Some(DITHER_TYPE + (index - 0x6360) as usize),
+        _ => None,
     }
 }
 
@@ -425,19 +393,19 @@ fn block_number(index: u16) -> u8
 
 // A pressure object has the place of its counterpart, 80h below it.
 #[tactic(auto, unfolding(crate::specs::Lookup::place_of))]
-pub fn place_of(index: u16) -> Place
+pub fn place_of(index: u16) -> Option<Place>
     ensures { result ≡ place_of index }
 {
     let which = block_number(index);
-    place_in(which, index - index::ABOVE * which as u16)
+    let place = place_in(index - index::ABOVE * which as u16)?;
+    Some(Place { which, place })
 }
 
-// What stands at a sub-index: the value so many rows after the object's first, a byte that never changes, or nothing.
+// What stands at a sub-index: the value so many rows after the object's first, or a byte that never changes.
 #[derive(Clone, Copy)]
 pub enum Entry {
     Value(u8),
     Fixed(u8),
-    Missing,
 }
 
 // The unit of a time, and its prefix, -3 as a byte.
@@ -460,14 +428,14 @@ fn record_entry(entries: u8, sub: u8) -> Entry
 
 // A sub-index beyond the entries is missing. A variable's only one is its value, and each of a map's is one.
 #[tactic(auto, unfolding(crate::specs::Lookup::entry_at))]
-pub fn entry_at(entries: u8, sub: u8) -> Entry
+pub fn entry_at(entries: u8, sub: u8) -> Option<Entry>
     ensures { result ≡ entry_at entries sub }
 {
     if entries < sub {
-        return Entry::Missing;
+        return None;
     }
     match entries {
-        VARIABLE | MAP => Entry::Value(sub),
-        _ => record_entry(entries, sub),
+        VARIABLE | MAP => Some(Entry::Value(sub)),
+        _ => Some(record_entry(entries, sub)),
     }
 }
