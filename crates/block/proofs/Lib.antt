@@ -1,4 +1,4 @@
-pub mod Stored
+pub mod Table
 pub mod Sound
 pub mod Laws
 pub mod Travel

@@ -20,6 +20,7 @@ use objects::{
     SETTINGS, THRESHOLD, UPPER_LIMIT, ZERO_CORRECTION,
 };
 use ramp::{Ramp, Times};
+use std::array;
 
 #[derive(Clone, Copy, PartialEq, Eq)]
 pub struct Block {
@@ -36,45 +37,40 @@ pub fn setting(block: Block, place: usize) -> i64
     requires { ASetting place }
     ensures { result ≡ setting block place }
 {
-    let settings = block.settings;
-    settings[place]
+    block.settings[place]
 }
 
 // The block at another position.
 pub fn at_position(block: Block, position: i64) -> Block
     ensures { result ≡ at_position position block }
 {
-    let mut other = block;
-    other.position = position;
-    other
+    Block { position, ..block }
 }
 
 // The block with another set point.
 pub fn with_setpoint(block: Block, value: i64) -> Block
     ensures { result ≡ with_setpoint value block }
 {
-    let mut other = block;
-    other.setpoint = value;
-    other
+    Block {
+        setpoint: value,
+        ..block
+    }
 }
 
 // The block with another setting at a place.
-pub fn with_setting(block: Block, place: usize, value: i64) -> Block
+pub fn with_setting(mut block: Block, place: usize, value: i64) -> Block
     requires { ASetting place }
     ensures { result ≡ with_setting place value block }
 {
-    let mut other = block;
-    other.settings[place] = value;
-    other
+    block.settings[place] = value;
+    block
 }
 
 // The block with other settings.
 pub fn with_settings(block: Block, settings: [i64; SETTINGS]) -> Block
     ensures { result ≡ with_settings settings block }
 {
-    let mut other = block;
-    other.settings = settings;
-    other
+    Block { settings, ..block }
 }
 
 // ---- the target
@@ -109,8 +105,7 @@ fn scaled_by(factor: i64, x: i64) -> i64
     requires { Scaling factor x }
     ensures { result ≡ scaled_by factor x }
 {
-    let magnitude = if x < 0 { -x } else { x };
-    let product = magnitude as u64 * factor as u64;
+    let product = x.unsigned_abs() * factor as u64;
     let scaled = (product / ONE) as i64;
     if x < 0 { -scaled } else { scaled }
 }
@@ -241,12 +236,10 @@ fn are_limits_sound(settings: [i64; SETTINGS]) -> bool
 fn are_settings_sound(settings: [i64; SETTINGS], others: [i64; SETTINGS]) -> bool
     ensures { result ≡ (sound_settings settings && sound_settings others) }
 {
-    let mut place = 0;
-    while place < SETTINGS {
+    for place in 0..SETTINGS {
         if !are_in_range(place, settings[place], others[place]) {
             return false;
         }
-        place += 1;
     }
     are_limits_sound(settings) && are_limits_sound(others)
 }
@@ -271,9 +264,7 @@ fn is_placed(block: Block) -> bool
 pub fn are_sound(block: Block, other: Block) -> bool
     ensures { result ≡ (sound_block block && sound_block other) }
 {
-    let settings = block.settings;
-    let others = other.settings;
-    are_settings_sound(settings, others) && is_placed(block) && is_placed(other)
+    are_settings_sound(block.settings, other.settings) && is_placed(block) && is_placed(other)
 }
 
 // Every setting as the table has it fresh.
@@ -281,17 +272,10 @@ pub fn are_sound(block: Block, other: Block) -> bool
 pub fn fresh() -> Block
     ensures { result ≡ fresh_block }
 {
-    let mut settings = [0i64; SETTINGS];
-    let mut place = 0;
-    while place < SETTINGS {
-        let fresh = objects::row_at(place).fresh;
-        settings[place] = fresh;
-        place += 1;
-    }
     Block {
         setpoint: objects::row_at(SET_POINT).fresh,
         position: 0,
-        settings: settings,
+        settings: array::from_fn(|place| objects::row_at(place).fresh),
     }
 }
 
@@ -300,20 +284,18 @@ pub fn fresh() -> Block
 fn ramp_of(block: Block) -> Ramp
     ensures { result ≡ ramp_of block }
 {
-    let acceleration = Times {
-        one: setting(block, ACCELERATION),
-        positive: setting(block, ACCELERATION_POSITIVE),
-        negative: setting(block, ACCELERATION_NEGATIVE),
-    };
-    let deceleration = Times {
-        one: setting(block, DECELERATION),
-        positive: setting(block, DECELERATION_POSITIVE),
-        negative: setting(block, DECELERATION_NEGATIVE),
-    };
     Ramp {
         kind: setting(block, RAMP_TYPE),
-        acceleration: acceleration,
-        deceleration: deceleration,
+        acceleration: Times {
+            one: setting(block, ACCELERATION),
+            positive: setting(block, ACCELERATION_POSITIVE),
+            negative: setting(block, ACCELERATION_NEGATIVE),
+        },
+        deceleration: Times {
+            one: setting(block, DECELERATION),
+            positive: setting(block, DECELERATION_POSITIVE),
+            negative: setting(block, DECELERATION_NEGATIVE),
+        },
     }
 }
 

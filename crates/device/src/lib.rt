@@ -77,7 +77,7 @@ pub fn fresh() -> Device
 {
     let block = block::fresh();
     Device {
-        block: block,
+        block,
         other: block,
         selected: POSITION,
         state: DISABLED,
@@ -92,18 +92,17 @@ pub fn fresh() -> Device
 pub fn with_block(device: Device, block: Block) -> Device
     ensures { result ≡ with_block block device }
 {
-    let mut other = device;
-    other.block = block;
-    other
+    Device { block, ..device }
 }
 
 // The device with another one in place of the block that is not selected.
 pub fn with_other(device: Device, block: Block) -> Device
     ensures { result ≡ with_other block device }
 {
-    let mut other = device;
-    other.other = block;
-    other
+    Device {
+        other: block,
+        ..device
+    }
 }
 
 // The block of a number.
@@ -138,31 +137,26 @@ pub fn select(device: Device, which: u8) -> Device
     if device.selected == which {
         return device;
     }
-    let block = device.block;
-    let other = device.other;
-    let mut exchanged = device;
-    exchanged.block = other;
-    exchanged.other = block;
-    exchanged.selected = which;
-    exchanged
+    Device {
+        block: device.other,
+        other: device.block,
+        selected: which,
+        ..device
+    }
 }
 
 // The device with other maps.
 pub fn with_maps(device: Device, maps: Maps) -> Device
     ensures { result ≡ with_maps maps device }
 {
-    let mut other = device;
-    other.maps = maps;
-    other
+    Device { maps, ..device }
 }
 
 // The device with another dither.
 pub fn with_dither(device: Device, dither: Dither) -> Device
     ensures { result ≡ with_dither dither device }
 {
-    let mut other = device;
-    other.dither = dither;
-    other
+    Device { dither, ..device }
 }
 
 // The valve is driven in HOLD and ACTIVE.
@@ -195,9 +189,7 @@ fn state_fits(state: u8, error: u16) -> bool
 fn rests(device: Device) -> bool
     ensures { result ≡ Sounds.rests device }
 {
-    let block = device.block;
-    let dither = device.dither;
-    driven(device.state) || (block.position == 0 && dither.phase == 0)
+    driven(device.state) || (device.block.position == 0 && device.dither.phase == 0)
 }
 
 // One of the two blocks is selected, and the other one is at position 0.
@@ -205,8 +197,7 @@ fn rests(device: Device) -> bool
 fn selection_fits(device: Device) -> bool
     ensures { result ≡ selection_fits device }
 {
-    let other = device.other;
-    device.selected <= PRESSURE && other.position == 0
+    device.selected <= PRESSURE && device.other.position == 0
 }
 
 // The cheap tests first.
@@ -214,16 +205,12 @@ fn selection_fits(device: Device) -> bool
 pub fn is_sound(device: Device) -> bool
     ensures { result ≡ sound_device device }
 {
-    let block = device.block;
-    let other = device.other;
-    let maps = device.maps;
-    let dither = device.dither;
     state_fits(device.state, device.error)
         && rests(device)
         && selection_fits(device)
-        && block::are_sound(block, other)
-        && dither::is_sound(dither)
-        && mapping::is_sound(maps)
+        && block::are_sound(device.block, device.other)
+        && dither::is_sound(device.dither)
+        && mapping::is_sound(device.maps)
 }
 
 // ---- control words and faults
@@ -232,8 +219,7 @@ pub fn is_sound(device: Device) -> bool
 fn from_disabled(word: u16) -> u8
     ensures { result ≡ from_disabled word }
 {
-    let bits = word % 2;
-    match bits {
+    match word % 2 {
         LEAVE_DISABLED => HOLD,
         _ => DISABLED,
     }
@@ -245,8 +231,7 @@ fn from_driven(word: u16) -> u8
     ensures hold { result ≡ from_hold word }
     ensures active { result ≡ from_active word }
 {
-    let bits = word % 8;
-    match bits {
+    match word % 8 {
         ALL_THREE => ACTIVE,
         1 | 3 | 5 => HOLD,
         _ => DISABLED,
@@ -270,8 +255,7 @@ fn next_state(state: u8, before: u16, word: u16) -> u8
 {
     match state {
         DISABLED => from_disabled(word),
-        HOLD => from_driven(word),
-        ACTIVE => from_driven(word),
+        HOLD | ACTIVE => from_driven(word),
         _ => from_fault(before, word),
     }
 }
@@ -313,16 +297,13 @@ fn error_in(state: u8, error: u16) -> u16
 fn entering(device: Device, state: u8) -> Device
     ensures { result ≡ Events.entering state device }
 {
-    let block = device.block;
-    let block = block_in(state, block);
-    let dither = device.dither;
-    let dither = dither_in(state, dither);
-    let mut entered = device;
-    entered.block = block;
-    entered.dither = dither;
-    entered.state = state;
-    entered.error = error_in(state, device.error);
-    entered
+    Device {
+        block: block_in(state, device.block),
+        dither: dither_in(state, device.dither),
+        state,
+        error: error_in(state, device.error),
+        ..device
+    }
 }
 
 // What an accepted control word does.
@@ -330,9 +311,10 @@ fn entering(device: Device, state: u8) -> Device
 pub fn control(device: Device, word: u16) -> Device
     ensures { result ≡ controlled word device }
 {
-    let mut controlled = entering(device, next_state(device.state, device.control, word));
-    controlled.control = word;
-    controlled
+    Device {
+        control: word,
+        ..entering(device, next_state(device.state, device.control, word))
+    }
 }
 
 // The device with the code of a report: in FAULT the first code stays.
@@ -343,9 +325,10 @@ fn reported(device: Device, code: u16) -> Device
     if device.state == FAULT {
         return device;
     }
-    let mut reported = device;
-    reported.error = code;
-    reported
+    Device {
+        error: code,
+        ..device
+    }
 }
 
 // What a fault report with a code other than 0 does.
@@ -365,12 +348,11 @@ pub fn tick(device: Device) -> Device
     ensures { result ≡ tick_device device }
 {
     if driven(device.state) {
-        let block = device.block;
-        let dither = device.dither;
-        with_dither(
-            with_block(device, block::tick(block, device.state == ACTIVE)),
-            dither::tick(dither),
-        )
+        Device {
+            block: block::tick(device.block, device.state == ACTIVE),
+            dither: dither::tick(device.dither),
+            ..device
+        }
     } else {
         device
     }
@@ -383,12 +365,11 @@ pub fn jump(device: Device, n: u32) -> Device
     ensures { result ≡ jump_device n device }
 {
     if driven(device.state) {
-        let block = device.block;
-        let dither = device.dither;
-        with_dither(
-            with_block(device, block::jump(block, device.state == ACTIVE, n)),
-            dither::jump(dither, n),
-        )
+        Device {
+            block: block::jump(device.block, device.state == ACTIVE, n),
+            dither: dither::jump(device.dither, n),
+            ..device
+        }
     } else {
         device
     }
@@ -403,8 +384,7 @@ pub fn ticks_to_go(device: Device) -> u32
     ensures { result ≡ device_ticks_to_go device }
 {
     if driven(device.state) {
-        let block = device.block;
-        block::ticks_to_go(block, device.state == ACTIVE)
+        block::ticks_to_go(device.block, device.state == ACTIVE)
     } else {
         0
     }
@@ -416,8 +396,7 @@ pub fn target(device: Device) -> i64
     requires { Sound device }
     ensures { result ≡ device_target device }
 {
-    let block = device.block;
-    block::target(block, device.state == ACTIVE)
+    block::target(device.block, device.state == ACTIVE)
 }
 
 // The command in ir.
@@ -427,9 +406,7 @@ pub fn command(device: Device) -> i64
     ensures { result ≡ device_command device }
 {
     if driven(device.state) {
-        let block = device.block;
-        let dither = device.dither;
-        block::command(block, dither::value(dither))
+        block::command(device.block, dither::value(device.dither))
     } else {
         0
     }
@@ -451,8 +428,7 @@ fn target_met(device: Device) -> u16
     requires { Sound device }
     ensures { result ≡ target_met device }
 {
-    let block = device.block;
-    if block::at_target(block, device.state == ACTIVE) {
+    if block::at_target(device.block, device.state == ACTIVE) {
         TARGET_MET
     } else {
         0
@@ -465,8 +441,7 @@ pub fn status(device: Device) -> u16
     requires { Sound device }
     ensures { result ≡ status_of device }
 {
-    let state = device.state;
-    match state {
+    match device.state {
         DISABLED => STATUS_DISABLED,
         HOLD => STATUS_HOLD + target_met(device),
         ACTIVE => STATUS_ACTIVE + target_met(device),

@@ -79,25 +79,22 @@ pub fn stands_at(dither: Dither, k: usize) -> i64
 
 // The dither with another value there.
 #[tactic(auto, unfolding(crate::specs::Dither::with_at))]
-pub fn with_at(dither: Dither, k: usize, value: i64) -> Dither
+pub fn with_at(mut dither: Dither, k: usize, value: i64) -> Dither
     ensures { result ≡ with_at k value dither }
 {
-    let mut other = dither;
     match k {
-        0 => other.kind = value,
-        1 => other.amplitude = value,
-        _ => other.frequency = value,
+        0 => dither.kind = value,
+        1 => dither.amplitude = value,
+        _ => dither.frequency = value,
     }
-    other
+    dither
 }
 
 // The dither at another phase.
 pub fn at_phase(dither: Dither, phase: u32) -> Dither
     ensures { result ≡ at_phase phase dither }
 {
-    let mut other = dither;
-    other.phase = phase;
-    other
+    Dither { phase, ..dither }
 }
 
 // Each value in its row's range. That the phase has 32 bits its type says.
@@ -126,7 +123,7 @@ fn increment(dither: Dither) -> u32
 fn advanced(phase: u32, by: u32) -> u32
     ensures { result ≡ Phase.advanced phase by }
 {
-    std::num::wrapping_add_u32(phase, by)
+    phase.wrapping_add(by)
 }
 
 // One tick.
@@ -144,7 +141,7 @@ pub fn jump(dither: Dither, n: u32) -> Dither
     requires { Sound dither }
     ensures { result ≡ jump_dither n dither }
 {
-    let product = n as u64 * increment(dither) as u64;
+    let product = u64::from(n) * u64::from(increment(dither));
     at_phase(dither, advanced(dither.phase, (product % PHASES) as u32))
 }
 
@@ -168,11 +165,11 @@ fn height(x: u32) -> i64
     ensures { result ≡ Wave.height x }
 {
     if x < QUARTER {
-        x as i64
+        i64::from(x)
     } else if x < THREE_QUARTERS {
-        HALF - x as i64
+        HALF - i64::from(x)
     } else {
-        x as i64 - PERIOD
+        i64::from(x) - PERIOD
     }
 }
 

@@ -27,10 +27,10 @@ both settings others l m =
     (and_across (each SETTINGS (in_range settings)) (each SETTINGS (in_range others)) (uncrossed settings) (uncrossed others))
 
 pub loop-place-init : goal.loop-place-init
-loop-place-init c = (omega arith, each_none _)
+loop-place-init c = each_none _
 
 pub loop-place-preserved : goal.loop-place-preserved
-loop-place-preserved c = (omega arith, each_more _ _ c.loop-place.invariant.1 (search (rules, c.if-not-are_in_range.ensures)))
+loop-place-preserved c = each_more _ _ c.loop-place.invariant (search (rules, c.if-not-are_in_range.ensures))
 
 pub returns-then-not-are_in_range : goal.returns-then-not-are_in_range
 returns-then-not-are_in_range c =
@@ -42,5 +42,5 @@ pub returns-then-are_limits_sound : goal.returns-then-are_limits_sound
 returns-then-are_limits_sound c =
     let a = c.args in
     let end : c.loop-place.place ≡ SETTINGS = omega arith in
-    let passed : each SETTINGS (both_in a.settings a.others) ≡ true = rw end at c.loop-place.invariant.1 in
+    let passed : each SETTINGS (both_in a.settings a.others) ≡ true = rw end at c.loop-place.invariant in
     (c.are_limits_sound-then-are_limits_sound.ensures ∙ simp (passed, sym c.if-are_limits_sound.ensures)) ∙ both a.settings a.others (search rules) (search rules)
