@@ -19,7 +19,7 @@ use objects::{
     HOLD_SET_POINT, LOWER_LIMIT, PARTS, RAMP_TYPE, SCALING_FACTOR, SCALING_OFFSET, SET_POINT,
     SETTINGS, THRESHOLD, UPPER_LIMIT, ZERO_CORRECTION,
 };
-use ramp::{Ramp, Times};
+use ramp::{Ramp, Times, Way};
 use std::array;
 
 #[derive(Clone, Copy, PartialEq, Eq)]
@@ -299,6 +299,20 @@ fn ramp_of(block: Block) -> Ramp
     }
 }
 
+// The way of the block to its target.
+fn way(block: Block, active: bool) -> Way
+    requires { Sound block }
+    ensures ramp { result.ramp ≡ ramp_of block }
+    ensures target { result.target ≡ target_position active block }
+    ensures position { result.position ≡ block.position }
+{
+    Way {
+        ramp: ramp_of(block),
+        target: target_position(block, active),
+        position: block.position,
+    }
+}
+
 // Whether the block has met its target.
 pub fn at_target(block: Block, active: bool) -> bool
     requires { Sound block }
@@ -313,14 +327,7 @@ pub fn tick(block: Block, active: bool) -> Block
     requires { Sound block }
     ensures { result ≡ tick_block active block }
 {
-    at_position(
-        block,
-        ramp::tick(
-            ramp_of(block),
-            target_position(block, active),
-            block.position,
-        ),
-    )
+    at_position(block, way(block, active).tick())
 }
 
 // n ticks at once.
@@ -329,15 +336,7 @@ pub fn jump(block: Block, active: bool, n: u32) -> Block
     requires { Sound block }
     ensures { result ≡ jump_block active n block }
 {
-    at_position(
-        block,
-        ramp::jump(
-            ramp_of(block),
-            target_position(block, active),
-            block.position,
-            n,
-        ),
-    )
+    at_position(block, way(block, active).jump(n))
 }
 
 // The ticks until the target is met.
@@ -346,9 +345,5 @@ pub fn ticks_to_go(block: Block, active: bool) -> u32
     requires { Sound block }
     ensures { result ≡ ticks_to_go_of active block }
 {
-    ramp::ticks_to_go(
-        ramp_of(block),
-        target_position(block, active),
-        block.position,
-    )
+    way(block, active).ticks_to_go()
 }

@@ -1,5 +1,5 @@
--- What the functions of the ramp ask of what they are handed, beside `Timed`, `Inside` and `Way`.
-use Rattle.std.specs.Prelude.{ℕ, ◌*◌, ◌≤◌, ◌<◌, ℤ, nat_abs}
+-- What the functions of the ramp ask of what they are handed, beside `Timed`.
+use Rattle.std.specs.Prelude.{ℕ, ◌*◌, ◌≤◌, ◌<◌, ℤ}
 use Rattle.objects.specs.Numbers.{FULL_POSITION}
 use Rattle.ramp.specs.Ramp.{Inside}
 
@@ -7,10 +7,6 @@ use Rattle.ramp.specs.Ramp.{Inside}
 pub record BothInside (a b : ℤ) : Type 0 where
   pub one : Inside a
   pub other : Inside b
-
--- a number whose size is at most the distance from end to end
-pub record Spanned (z : ℤ) : Type 0 where
-  pub most : nat_abs z ≤ 2 * FULL_POSITION
 
 -- a move by at most the distance from end to end, from within full stroke
 pub record Movable (m : ℕ) (p : ℤ) : Type 0 where
