@@ -266,10 +266,7 @@ fn is_writable(access: Access) -> bool
 fn is_choice(place: usize) -> bool
     ensures { result ≡ Table.is_choice place }
 {
-    match place {
-        RAMP_TYPE | DEAD_BAND_TYPE | DITHER_TYPE => true,
-        _ => false,
-    }
+    matches!(place, RAMP_TYPE | DEAD_BAND_TYPE | DITHER_TYPE)
 }
 
 // The row at a place.
@@ -298,7 +295,7 @@ pub fn row_at(place: usize) -> Row
 pub fn lies_in(low: i64, high: i64, x: i64) -> bool
     ensures { result ≡ lies_in low high x }
 {
-    low <= x && x <= high
+    (low..=high).contains(&x)
 }
 
 // In the range of the row at a place.
