@@ -1,4 +1,5 @@
 -- What the library's answers leave of a device: refused, all of it; done, all but what moves, or all but that and the position block.
+use Rattle.std.proofs.Common.{Ok, Err, IsOk}
 use mathlib.Core.Bool.{Bool, true, false, not}
 use mathlib.Core.List.{List}
 use mathlib.Core.Path.{◌≡◌, refl, sym, ap, ◌∙◌}
@@ -10,12 +11,12 @@ use lib.IntN.{ℤ, pos}
 use lib.ListN.{length, set, take, drop}
 use lib.Seq.{get_or-set_same, set-get_or, set-set}
 use Rattle.integers.specs.Words.{◌is◌, ◌among◌}
-use Rattle.integers.proofs.Cases.{by_cases, by_test}
+use Rattle.integers.proofs.Cases.{by_cases, by_test, apart}
 use Rattle.objects.specs.Places.{SETTINGS, HOLD_SET_POINT, POSITION}
 use Rattle.block.specs.Block.{setting}
 use Rattle.block.specs.Sound.{sound_settings}
 use Rattle.block.specs.declared.Block.{Block}
-use Rattle.block.proofs.Sound.{block_parts}
+use Rattle.block.proofs.Sound.{block_parts, settings_parts}
 use Rattle.mapping.specs.Maps.{RECEIVABLE, entry_of, length_of, map_length}
 use Rattle.mapping.proofs.Sound.{one_of_three, counted_mapped}
 use Rattle.dither.specs.Dither.{at_phase}
@@ -25,6 +26,7 @@ use Rattle.device.specs.Device.{block_of, with_block_of}
 use Rattle.device.specs.Sound.{sound_device, Sound}
 use Rattle.device.specs.Kept.{SameSettings}
 use Rattle.device.specs.declared.Device.{Device}
+use Rattle.device.specs.declared.refusal.Refusal.{Refusal}
 use Rattle.device.proofs.Laws.{receive_parts, other_at_zero, block_of_same, with_block_of_itself, block_of_sound_device}
 use Rattle.device.specs.Events.{controlled}
 use Rattle.device.proofs.Kept.{same, same_block, tick_keeps, jump_keeps, controlled_keeps, faulted_keeps}
@@ -32,8 +34,8 @@ use Rattle.pdo.specs.Receive.{acted, received}
 use Rattle.pdo.proofs.Laws.{received_more, acted_sound}
 use Rattle.pdo.proofs.Objects.{word_acted, set_point_acted, hold_set_point_acted}
 use Rattle.rainsheave.specs.Calls.{change, changed, control_answer, fault_answer, tick_answer, jump_answer, receive_answer, load_answer}
-use Rattle.rainsheave.specs.declared.Report.TheVariants.{Done, Refused}
 use Rattle.rainsheave.specs.declared.Change.{Change}
+use Rattle.rainsheave.proofs.Images.{by_load}
 use Rattle.words.specs.Stored.{with_set_points}
 use Rattle.c_api.specs.Asked.{Left}
 
@@ -43,10 +45,10 @@ pub record Moves (d : Device) (c : Change) : Type 0 where
   pub left : Left c.report d c.device
   pub moves : SameSettings c.device d
 
-refused_moves : {d : Device} {number : ℕ} → Moves d (change (Refused number) d)
+refused_moves : {d : Device} {refusal : Refusal} → Moves d (change (Err refusal) d)
 refused_moves = record { left = refl; moves = same }
 
-done_moves : {d e : Device} → SameSettings e d → Moves d (change Done e)
+done_moves : {d e : Device} → SameSettings e d → Moves d (change (Ok tt) e)
 done_moves s = record { left = tt; moves = s }
 
 changed_moves : (d : Device) {c : Change} → Moves d c → Moves d (changed d c)
@@ -109,10 +111,10 @@ pub record Loads (d : Device) (c : Change) : Type 0 where
   pub left : Left c.report d c.device
   pub loads : c.device ≡ with_block_of POSITION (block_of POSITION c.device) d
 
-refused_loads : {d : Device} {number : ℕ} → Loads d (change (Refused number) d)
+refused_loads : {d : Device} {refusal : Refusal} → Loads d (change (Err refusal) d)
 refused_loads {d} = record { left = refl; loads = sym (with_block_of_itself POSITION d) }
 
-done_loads : (d : Device) (b : Block) → Loads d (change Done (with_block_of POSITION b d))
+done_loads : (d : Device) (b : Block) → Loads d (change (Ok tt) (with_block_of POSITION b d))
 done_loads d b = record { left = tt; loads = rw (block_of_same d b POSITION) }
 
 pub load_loads : (d : Device) (image : List ℕ) → Loads d (load_answer d image)
@@ -123,6 +125,12 @@ load_loads d image =
     (λ f. by_test (Loads d) (not (is_full image)) (λ g. refused_loads)
     (λ g. by_test (Loads d) (not (sound_settings (settings_in image))) (λ h. refused_loads) (λ h. done_loads d _))))
     (λ e. refused_loads)
+
+-- the settings that are loaded are as many as a block has
+pub load_long : (d : Device) (image : List ℕ) → IsOk (load_answer d image).report → length (block_of POSITION (load_answer d image).device).settings ≡ SETTINGS
+load_long d image =
+    by_load (λ c. IsOk c.report → length (block_of POSITION c.device).settings ≡ SETTINGS) d image (λ refusal e. apart (cc))
+    (λ full sound e. ap (λ (b : Block). length b.settings) (block_of_same d _ POSITION) ∙ (settings_parts (settings_in image) sound).long)
 
 -- ---- a received PDO
 
@@ -190,10 +198,10 @@ module _ {d : Device} (s : Sound d) (bytes : List ℕ) where
       rw (← add-one n, received_more d.maps.receive.entries n bytes d (omega (arith, p.long, p.few)))
       (acted_reached (entry_of d.maps.receive n) (drop (length_of (take n d.maps.receive.entries)) bytes) (counted_mapped RECEIVABLE p n (omega arith)) (received_reached n (omega arith)))
 
-refused_receives : {d : Device} {number : ℕ} → Receives d (change (Refused number) d)
+refused_receives : {d : Device} {refusal : Refusal} → Receives d (change (Err refusal) d)
 refused_receives {d} = record { left = refl; moves = moved_points (beside_itself d) (points_itself d) refl }
 
-done_receives : {d e : Device} → Sound d → Reached d e → Receives d (change Done e)
+done_receives : {d e : Device} → Sound d → Reached d e → Receives d (change (Ok tt) e)
 done_receives s r = record { left = tt; moves = moved_points r.beside r.points (other_at_zero r.sound ∙ sym (other_at_zero s)) }
 
 pub receive_receives : (d : Device) (pdo : List ℕ) → Receives d (receive_answer d pdo)

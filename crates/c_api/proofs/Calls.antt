@@ -1,29 +1,27 @@
 -- From what a call found to what it is fixed to leave: words that hold no device are refused; of others the library's answer is stored.
+use Rattle.std.proofs.Common.{Ok, Err, is_ok}
 use mathlib.Core.Bool.{Bool, true, false}
 use mathlib.Core.List.{List}
 use mathlib.Core.Path.{◌≡◌, refl, sym, ap, ◌∙◌}
-use Prim.Native.Nat.{ℕ}
-use lib.IntN.{ℤ, pos}
+use lib.IntN.{ℤ}
 use lib.ListN.{length}
 use Rattle.objects.specs.Places.{SETTINGS, POSITION}
-use Rattle.device.specs.Device.{block_of}
+use Rattle.device.specs.Device.{block_of, with_block_of}
+use Rattle.device.specs.Kept.{SameSettings}
 use Rattle.device.specs.declared.Device.{Device}
 use Rattle.dictionary.specs.declared.Decision.{Decision}
 use Rattle.dictionary.specs.declared.Decision.TheVariants.{Read, Write, Abort}
 use Rattle.sdo.specs.Frames.{number_handed_back}
 use Rattle.sdo.specs.Serve.{outcome_of}
-use Rattle.rainsheave.specs.Numbers.{UNSOUND}
-use Rattle.rainsheave.specs.Calls.{query_answer}
+use Rattle.rainsheave.specs.Calls.{Report}
 use Rattle.rainsheave.specs.declared.Change.{Change}
-use Rattle.rainsheave.specs.declared.Report.TheVariants.{Done, Refused}
-use Rattle.rainsheave.specs.declared.Reading.{Reading}
-use Rattle.words.specs.Words.{WORDS, words_of, device_in, hold_device}
-use Rattle.words.specs.Stored.{moved_in, set_points_in, position_block_in}
+use Rattle.words.specs.Words.{words_of, device_in, hold_device}
+use Rattle.words.specs.Stored.{with_set_points, moved_in, set_points_in, position_block_in}
+use Rattle.integers.proofs.Cases.{apart}
 use Rattle.words.specs.Asked.{Tested, Held}
 use Rattle.words.proofs.Laws.{held_sized, held_words, moved_words, position_block_words}
 use Rattle.words.proofs.Written.{set_points_words, pointed_sized}
-use Rattle.c_api.specs.Exported.{ChangeIs, QueryIs}
-use Rattle.c_api.specs.Asked.{Left, Moving, Receiving, Loading, Stored}
+use Rattle.c_api.specs.Asked.{Left, Holding}
 use Rattle.c_api.proofs.Answers.{Moves, Receives, Loads}
 
 -- what the test tells
@@ -39,49 +37,34 @@ module _ {words : List ℤ} {t : Bool} (tested : Tested words t) where
 
 -- ---- a call that changes the device
 
-pub none_changes : (answer : Device → Change) {words : List ℤ} → hold_device words ≡ false → ChangeIs answer words words UNSOUND
-none_changes answer e = record { number = rw e; words = rw e }
+-- done, what is stored makes the words those of the changed device
+same_words : {words : List ℤ} → Holding words → words_of (device_in words) ≡ words
+same_words h = held_words h.held h.long
 
-pub stored_changes : (answer : Device → Change) {before after : List ℤ} {r : ℕ} {c : Change} → hold_device before ≡ true → c ≡ answer (device_in before) → Stored c after r → ChangeIs answer before after r
-stored_changes answer e f s = record { number = rw e (rw f at s.number); words = rw e (rw f at s.words) }
+module _ {words after : List ℤ} {c answer : Change} (h : Holding words) (e : c ≡ answer) where
+  pub stored_moved : Moves (device_in words) answer → after ≡ moved_in c.device words → after ≡ words_of c.device
+  stored_moved m f =
+      let moves : SameSettings c.device (device_in words) = rw e m.moves in
+      f ∙ rw (same_words h) at (moved_words (held_sized words) moves)
 
-module _ {words : List ℤ} {t : Bool} (tested : Tested words t) (e : t ≡ true) {answer c : Change} where
-  pub moving : Moves (device_in words) answer → c ≡ answer → Moving words c
-  moving m f = rw f (record { held = held tested e; long = tested.long; left = m.left; moves = m.moves })
+  pub stored_received : Receives (device_in words) answer → after ≡ moved_in c.device (set_points_in c.device words) → after ≡ words_of c.device
+  stored_received m f =
+      let s = held_sized words in
+      let points = rw (same_words h) at (set_points_words (device_in words) c.device s) in
+      let moves : SameSettings c.device (with_set_points c.device (device_in words)) = rw e m.moves in
+      f ∙ rw points (moved_words (pointed_sized (device_in words) c.device s) moves)
 
-  pub receiving : Receives (device_in words) answer → c ≡ answer → Receiving words c
-  receiving m f = rw f (record { held = held tested e; long = tested.long; left = m.left; moves = m.moves })
+  pub stored_loaded : Loads (device_in words) answer → length (block_of POSITION answer.device).settings ≡ SETTINGS → after ≡ position_block_in c.device words → after ≡ words_of c.device
+  stored_loaded m l f =
+      let long : length (block_of POSITION c.device).settings ≡ SETTINGS = rw e l in
+      let loads : c.device ≡ with_block_of POSITION (block_of POSITION c.device) (device_in words) = rw e m.loads in
+      let block = rw (same_words h) at (position_block_words (device_in words) c.device (held_sized words) long) in
+      f ∙ block ∙ ap words_of (sym loads)
 
-  pub loading : Loads (device_in words) answer → c ≡ answer → Loading words c
-  loading m f = rw f (record { held = held tested e; long = tested.long; left = m.left; loads = m.loads })
-
--- done, what changed is in the words
-pub stored_moved : {words after : List ℤ} {c : Change} → Moving words c → c.report ≡ Done → after ≡ moved_in c.device words → Stored c after 0
-stored_moved {words} m e f = record { number = rw e; words = f ∙ rw (held_words m.held m.long) at (moved_words (held_sized words) m.moves) }
-
-pub stored_received : {words after : List ℤ} {c : Change} → Receiving words c → c.report ≡ Done → after ≡ moved_in c.device (set_points_in c.device words) → Stored c after 0
-stored_received {words} {c = c} m e f =
-    let s = held_sized words in
-    let points = rw (held_words m.held m.long) at (set_points_words (device_in words) c.device s) in
-    record { number = rw e; words = f ∙ rw points (moved_words (pointed_sized (device_in words) c.device s) m.moves) }
-
-pub stored_loaded : {words after : List ℤ} {c : Change} → Loading words c → length (block_of POSITION c.device).settings ≡ SETTINGS → c.report ≡ Done → after ≡ position_block_in c.device words → Stored c after 0
-stored_loaded {words} {c = c} m l e f =
-    let block = rw (held_words m.held m.long) at (position_block_words (device_in words) c.device (held_sized words) l) in
-    record { number = rw e; words = f ∙ block ∙ ap words_of (sym m.loads) }
-
--- refused, they are as they were
-pub stored_left : {words : List ℤ} {c : Change} {number : ℕ} → Held words → length words ≡ WORDS → Left c.report (device_in words) c.device → c.report ≡ Refused number → Stored c words number
-stored_left {words} h l left e = record { number = rw e; words = sym (held_words h l) ∙ ap words_of (sym (rw e at left)) }
-
--- ---- a query
-
-module _ (value : Device → ℤ) {words : List ℤ} {r : Reading} where
-  pub told_query : hold_device words ≡ true → r ≡ query_answer (device_in words) (value (device_in words)) → QueryIs value words r
-  told_query e f = record { result = rw e f }
-
-  pub none_query : hold_device words ≡ false → r ≡ record { value = pos 0; number = UNSOUND } → QueryIs value words r
-  none_query e f = record { result = rw e f }
+-- a refusal leaves the device
+pub left_same : (report : Report) {d e : Device} → is_ok report ≡ false → Left report d e → e ≡ d
+left_same (Ok done) f left = apart (cc)
+left_same (Err refusal) f left = left
 
 -- ---- a request
 

@@ -101,10 +101,10 @@ carried_small (Abort code) d w m = m
 sdo_small : (d : Device) (request : List ℕ) (room : ℕ) → Small d → Small (sdo_answer d request room).device
 unfolding served
 sdo_small d request room m =
-    by_sdo (λ a. Small a.device) d request room (λ number. m) (λ l. carried_small (decision_on d (request_of request)) d (decided d (request_of request)) m)
+    by_sdo (λ a. Small a.device) d request room (λ refusal. m) (λ l. carried_small (decision_on d (request_of request)) d (decided d (request_of request)) m)
 
 load_small : (d : Device) (image : List ℕ) → Small d → Small (load_answer d image).device
-load_small d image m = by_load (λ c. Small c.device) d image (λ number. m) (λ full sound. replaced_small _ _ d m)
+load_small d image m = by_load (λ c. Small c.device) d image (λ refusal. m) (λ full sound. replaced_small _ _ d m)
 
 -- a received PDO
 acted_small : {e : Device} (entry : ℕ) (bytes : List ℕ) → entry among RECEIVABLE ≡ true → Small e → Small (acted entry bytes e)

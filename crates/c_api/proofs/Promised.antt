@@ -1,24 +1,18 @@
 -- Each contract is an equation; the library's answers leave a refused device, whose words are those that hold it.
-use mathlib.Core.Bool.{not}
+use Rattle.std.proofs.Common.{Ok, Err, Result}
 use mathlib.Core.List.{List}
 use mathlib.Core.Logic.{◌≢◌}
 use mathlib.Core.Path.{◌≡◌, refl, sym, ap, ◌∙◌}
 use Prim.Native.Nat.{ℕ}
-use native.Mathlib.Omega.{arith}
-use lib.Dec.{ltb}
 use lib.IntN.{ℤ}
 use lib.ListN.{length}
-use Rattle.integers.proofs.Cases.{by_cases, by_test}
-use Rattle.mapping.specs.Maps.{map_length}
-use Rattle.device.specs.Sound.{sound_device}
+use Rattle.integers.proofs.Cases.{by_cases, apart}
 use Rattle.device.specs.declared.Device.{Device}
+use Rattle.device.specs.declared.refusal.Refusal.{Refusal}
 use Rattle.sdo.specs.Frames.{number_handed_back}
 use Rattle.sdo.specs.declared.Outcome.{Outcome}
-use Rattle.sdo.specs.declared.Outcome.TheVariants.{Read, Written, Abort, Refused as Refuse}
-use Rattle.rainsheave.specs.Calls.{number_of_report, sdo_answer, send_answer, send_room_by, send_room, store_answer, room_by, store_room}
-use Rattle.rainsheave.specs.declared.Sent.{Sent as LibrarySent}
-use Rattle.rainsheave.specs.declared.Report.{Report}
-use Rattle.rainsheave.specs.declared.Report.TheVariants.{Done, Refused}
+use Rattle.sdo.specs.declared.Outcome.TheVariants.{Read, Written, Abort, Refused}
+use Rattle.rainsheave.specs.Calls.{Report, number_of_report, bytes_sent, sdo_answer, send_answer, send_room_by, send_room, store_answer, room_by, store_room}
 use Rattle.rainsheave.specs.declared.Change.{Change}
 use Rattle.rainsheave.proofs.Promises.{sdo_unchanged, refusal_writes_nothing}
 use Rattle.words.specs.Words.{WORDS, words_of, device_in, hold_device}
@@ -52,8 +46,8 @@ determined =
 
 -- a report with another number than 0 is a refusal, which leaves the device
 left_refused : (report : Report) (d e : Device) → Left report d e → number_of_report report ≢ 0 → e ≡ d
-left_refused Done d e left h = absurd (h refl)
-left_refused (Refused number) d e left h = left
+left_refused (Ok done) d e left h = absurd (h refl)
+left_refused (Err refusal) d e left h = left
 
 unchanged : (answer : Device → Change) → ((d : Device) → Left (answer d).report d (answer d).device) → Unchanged answer
 unchanged answer left before after r l c h =
@@ -65,38 +59,30 @@ unchanged answer left before after r l c h =
     (λ t. c.words ∙ rw t)
 
 -- an outcome with another number than 0 is a refusal
-refusal : (o : Outcome) → number_handed_back o ≢ 0 → (o ≡ Refuse (number_handed_back o)) × (o ≢ Written)
-refusal (Read size number) h = absurd (h refl)
-refusal Written h = absurd (h refl)
-refusal (Abort code) h = absurd (h refl)
-refusal (Refuse number) h = (refl, λ e. let z : ◌≡◌ {A = ℕ} 0 1 = cc in absurd (omega arith))
+refusal_of : (o : Outcome) → number_handed_back o ≢ 0 → (refusal : Refusal) × (o ≡ Refused refusal)
+refusal_of (Read size number) h = absurd (h refl)
+refusal_of Written h = absurd (h refl)
+refusal_of (Abort code) h = absurd (h refl)
+refusal_of (Refused refusal) h = (refusal, refl)
 
 sdo_refused : {request : List ℕ} {before after : List ℤ} {room left : List ℕ} {r : ℕ} → length before ≡ WORDS → SdoIs request before after room left r → r ≢ 0 → (after ≡ before) × (left ≡ room)
 sdo_refused {request} {before} {after} {room} {left} l c h =
     by_cases (hold_device before)
     (λ t.
     let d = device_in before in
-    let o = (sdo_answer d request (length room)).outcome in
-    let e = refusal o (λ z. h (c.number ∙ rw t z)) in
-    (c.words ∙ rw t (ap words_of (sdo_unchanged d request (length room) e.1) ∙ held_words (record { held = t }) l), c.bytes ∙ rw t (refusal_writes_nothing d request room (number_handed_back o) e.0)))
+    let e = refusal_of (sdo_answer d request (length room)).outcome (λ z. h (c.number ∙ rw t z)) in
+    let changes_nothing = sdo_unchanged d request (length room) (λ w. apart (cc (e.1, w))) in
+    (c.words ∙ rw t (ap words_of changes_nothing ∙ held_words (record { held = t }) l), c.bytes ∙ rw t (refusal_writes_nothing d request room e.0 e.1)))
     (λ t. (c.words ∙ rw t, c.bytes ∙ rw t))
 
--- a report that is no refusal has 0, and a refusal writes nothing
-sent_nothing : (report : Report) (d : Device) (room : List ℕ) → number_of_report report ≢ 0 → send_room_by report d room ≡ room
-sent_nothing Done d room h = absurd (h refl)
-sent_nothing (Refused number) d room h = refl
+-- what is no refusal has 0, and a refusal writes nothing
+sent_nothing : (report : Result ℕ Refusal) (d : Device) (room : List ℕ) → number_of_report report ≢ 0 → (send_room_by report d room ≡ room) × (bytes_sent report ≡ 0)
+sent_nothing (Ok bytes) d room h = absurd (h refl)
+sent_nothing (Err refusal) d room h = (refl, refl)
 
 stored_nothing : (report : Report) (d : Device) (room : List ℕ) → number_of_report report ≢ 0 → room_by report d room ≡ room
-stored_nothing Done d room h = absurd (h refl)
-stored_nothing (Refused number) d room h = refl
-
-none_sent : (d : Device) (room : ℕ) → number_of_report (send_answer d room).report ≢ 0 → (send_answer d room).length ≡ 0
-unfolding send_answer
-none_sent d room =
-    by_test None (not (sound_device d)) (λ e h. refl) (λ e. by_test None (ltb room (map_length d.maps.transmit)) (λ f h. refl) (λ f h. absurd (h refl)))
-  where
-    None : LibrarySent → Type 0
-    None s = number_of_report s.report ≢ 0 → s.length ≡ 0
+stored_nothing (Ok done) d room h = absurd (h refl)
+stored_nothing (Err refusal) d room h = refl
 
 send_refused : {words : List ℤ} {room left : List ℕ} {r : Sent} → SendIs words room left r → r.number ≢ 0 → (left ≡ room) × (r.length ≡ 0)
 unfolding send_room
@@ -104,8 +90,8 @@ send_refused {words} {room} c h =
     by_cases (hold_device words)
     (λ t.
     let d = device_in words in
-    let refused : number_of_report (send_answer d (length room)).report ≢ 0 = λ z. h (c.number ∙ rw t z) in
-    (c.bytes ∙ rw t (sent_nothing (send_answer d (length room)).report d room refused), c.sent ∙ rw t (none_sent d (length room) refused)))
+    let nothing = sent_nothing (send_answer d (length room)) d room (λ z. h (c.number ∙ rw t z)) in
+    (c.bytes ∙ rw t nothing.0, c.sent ∙ rw t nothing.1))
     (λ t. (c.bytes ∙ rw t, c.sent ∙ rw t))
 
 store_refused : {words : List ℤ} {room left : List ℕ} {r : ℕ} → StoreIs words room left r → r ≢ 0 → left ≡ room

@@ -1,16 +1,18 @@
 -- What each exported call is fixed to leave, in every case: the number, the value, every word of the device and every byte of each lent
 -- buffer. What it is of the device that the words hold, the library's own answer says; words that hold none are refused as an unsound
 -- device is, and left as they are.
-use Rattle.std.specs.Prelude.{List, ◌≡◌, ℕ, ℤ, pos, length, if◌then◌else◌}
+use Rattle.std.specs.Prelude.{List, ◌≡◌, ℕ, ℤ, length, if◌then◌else◌, Result, Err}
 use Rattle.device.specs.Device.{fresh_device}
+use Rattle.device.specs.Numbers.{UNSOUND}
 use Rattle.device.specs.declared.Device.{Device}
+use Rattle.device.specs.declared.refusal.Refusal.{Refusal}
+use Rattle.device.specs.declared.refusal.Refusal.TheVariants.{Unsound}
 use Rattle.image.specs.Walk.{walk, part_of, begin_of, code_of}
 use Rattle.sdo.specs.Frames.{read_request, write_request, number_handed_back}
-use Rattle.rainsheave.specs.Numbers.{UNSOUND}
-use Rattle.rainsheave.specs.Calls.{number_of_report, query_answer, sdo_answer, sdo_room, send_answer, send_room, store_answer, store_room}
+use Rattle.rainsheave.specs.Calls.{number_of_report, value_told, bytes_sent, query_answer, sdo_answer, sdo_room, send_answer, send_room, store_answer, store_room}
 use Rattle.rainsheave.specs.declared.Change.{Change}
-use Rattle.rainsheave.specs.declared.Reading.{Reading}
 use Rattle.words.specs.Words.{words_of, device_in, hold_device}
+use Rattle.c_api.specs.declared.Reading.{Reading}
 use Rattle.c_api.specs.declared.Sent.{Sent}
 use Rattle.c_api.specs.declared.Part.{Part}
 
@@ -40,14 +42,18 @@ pub record ReadRequestIs (index sub : ℕ) (after : List ℕ) : Type 0 where
 pub record WriteRequestIs (index sub size number : ℕ) (after : List ℕ) : Type 0 where
   pub bytes : after ≡ write_request index sub size number
 
+-- what a query tells: its value beside the number 0, or 0 beside that of a refusal
+abbrev pub reading_of : Result ℤ Refusal → Reading
+reading_of told = record { value = value_told told; number = number_of_report told }
+
 -- a query, by the value that it tells
 pub record QueryIs (value : Device → ℤ) (words : List ℤ) (r : Reading) : Type 0 where
-  pub result : r ≡ of_device words (λ d. query_answer d (value d)) (record { value = pos 0; number = UNSOUND })
+  pub result : r ≡ of_device words (λ d. reading_of (query_answer d (value d))) (reading_of (Err Unsound))
 
 -- `rainsheave_send`, with the room for the PDO before and after
 pub record SendIs (words : List ℤ) (room left : List ℕ) (r : Sent) : Type 0 where
-  pub sent : r.length ≡ of_device words (λ d. (send_answer d (length room)).length) 0
-  pub number : r.number ≡ of_device words (λ d. number_of_report (send_answer d (length room)).report) UNSOUND
+  pub sent : r.length ≡ of_device words (λ d. bytes_sent (send_answer d (length room))) 0
+  pub number : r.number ≡ of_device words (λ d. number_of_report (send_answer d (length room))) UNSOUND
   pub bytes : left ≡ of_device words (λ d. send_room d room) room
 
 -- `rainsheave_store`, with the room for the image before and after

@@ -7,8 +7,8 @@ use Rattle.device.specs.Sound.{Sound}
 use Rattle.device.specs.declared.Device.{Device}
 use Rattle.rainsheave.specs.Calls.{sdo_answer, control_answer, fault_answer, tick_answer, jump_answer, receive_answer, load_answer}
 use Rattle.rainsheave.specs.declared.Change.{Change}
-use Rattle.rainsheave.specs.declared.Reading.{Reading}
 use Rattle.words.specs.Words.{WORDS, TWO_BYTES, device_in, hold_device}
+use Rattle.c_api.specs.declared.Reading.{Reading}
 use Rattle.c_api.specs.declared.Sent.{Sent}
 use Rattle.c_api.specs.declared.Part.{Part}
 use Rattle.c_api.specs.Exported.{FreshIs, ChangeIs, SdoIs, ReadRequestIs, WriteRequestIs, QueryIs, SendIs, StoreIs, FindIs}

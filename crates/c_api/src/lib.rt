@@ -3,7 +3,6 @@
 // 64 bits behind a pointer. Words that hold no device are refused as an unsound device is. Refused, a call stores nothing.
 ghost use Rattle.std.specs.Prelude.{◌≡◌, pos};
 ghost use Rattle.device.specs.Queries.{status_of, device_target, device_command, device_ticks_to_go};
-ghost use Rattle.rainsheave.specs.Numbers as Numbers;
 ghost use Rattle.rainsheave.specs.Calls.{control_answer, fault_answer, tick_answer, jump_answer, receive_answer, load_answer};
 ghost use Rattle.rainsheave.specs.Fixed.{FindCodeIs};
 ghost use Rattle.c_api.specs.Exported.{
@@ -16,12 +15,14 @@ ghost use Rattle.c_api.specs.Exported.{
   SendIs,
   StoreIs,
   FindIs,
+  reading_of,
 };
-ghost use Rattle.c_api.specs.Asked.{Moving, Receiving, Loading, Stored};
+ghost use Rattle.c_api.specs.Asked.{Leaves, Stores, Told, Changed, SentIs};
 
+use device::Device;
 use image::Found;
 use rainsheave::number::{DONE, FIELD_CUT, NOT_FOUND, UNSOUND};
-use rainsheave::{Change, Reading, Report, Settled};
+use rainsheave::{Change, Refusal};
 use words::place::WORDS;
 
 pub mod length;
@@ -30,12 +31,42 @@ pub mod state;
 
 use crate::length::FRAME;
 
+// What a query tells: the value, which is 0 beside a refusal.
+#[repr(C)]
+#[derive(Clone, Copy)]
+pub struct Reading {
+    pub value: i64,
+    pub number: u8,
+}
+
+impl From<Result<i64, Refusal>> for Reading {
+    ghost from_gives = { λ told reading. reading ≡ reading_of told };
+
+    fn from(told: Result<i64, Refusal>) -> Reading {
+        Reading {
+            value: told.unwrap_or(0),
+            number: rainsheave::number_of_report(told),
+        }
+    }
+}
+
 // What was sent: how many bytes were written, which are none beside a refusal.
 #[repr(C)]
 #[derive(Clone, Copy)]
 pub struct Sent {
     pub length: usize,
     pub number: u8,
+}
+
+impl From<Result<usize, Refusal>> for Sent {
+    ghost from_gives = { λ told sent. SentIs told sent };
+
+    fn from(told: Result<usize, Refusal>) -> Sent {
+        Sent {
+            length: told.unwrap_or(0),
+            number: rainsheave::number_of_report(told),
+        }
+    }
 }
 
 // What was found: where in the image, and how many bytes; both are 0 beside a refusal.
@@ -58,17 +89,14 @@ pub fn rainsheave_fresh(device: &mut [i64; WORDS])
 pub fn rainsheave_sdo(device: &mut [i64; WORDS], request: &[u8], reply: &mut [u8]) -> u8
     ensures { SdoIs request.now device.old device.new reply.old reply.new result }
 {
-    let words = *device;
-    if !words::hold_device(words) {
+    if !words::hold_device(*device) {
         return UNSOUND;
     }
-    match rainsheave::settle(words::device_in(&*device), request, reply) {
-        Settled::Refused(number) => number,
-        Settled::Decided(decision) => {
-            words::carry_out(device, decision);
-            DONE
-        }
+    let settled = rainsheave::settle(words::device_in(&*device), request, reply);
+    if let Ok(decision) = settled {
+        words::carry_out(device, decision);
     }
+    rainsheave::number_of_report(settled)
 }
 
 pub fn rainsheave_read_request(request: &mut [u8; FRAME], index: u16, sub_index: u8)
@@ -89,201 +117,144 @@ pub fn rainsheave_write_request(
     *request = rainsheave::write_request(index, sub_index, size, number);
 }
 
-// ---- control words, faults, ticks and jumps
+// ---- calls that change the device
 
-// A change that can only move the device goes to its words.
-fn moved_by(device: &mut [i64; WORDS], change: Change) -> u8
-    requires { Moving device.old change }
-    ensures { Stored change device.new result }
+// Done, what the call changed of the device that the words hold is stored in them; refused, nothing is.
+fn changed<F: FnOnce(Device) -> Change, S: FnOnce(&mut [i64; WORDS], Device)>(
+    device: &mut [i64; WORDS],
+    call: F,
+    store: S,
+) -> u8
+    requires callable { F.IsAlwaysCallable call }
+    requires storable { S.IsAlwaysCallable store }
+    requires left { Leaves (F.post call) }
+    requires stored { Stores (F.post call) (λ words device after. S.post store words device tt after) }
+    ensures { Changed (F.post call) device.old device.new result }
 {
-    let after = change.device;
-    let report = change.report;
-    match report {
-        Report::Done => {
-            words::put_moved(device, after);
-            DONE
-        }
-        Report::Refused(number) => number,
+    if !words::hold_device(*device) {
+        return UNSOUND;
     }
+    let change = call(words::device_in(&*device));
+    if change.report.is_ok() {
+        store(device, change.device);
+    }
+    rainsheave::number_of_report(change.report)
 }
 
 pub fn rainsheave_control(device: &mut [i64; WORDS], word: u16) -> u8
     ensures { ChangeIs (λ d. control_answer d word) device.old device.new result }
 {
-    let words = *device;
-    if !words::hold_device(words) {
-        return UNSOUND;
-    }
-    let change = rainsheave::control(words::device_in(&*device), word);
-    moved_by(device, change)
+    changed(
+        device,
+        |before| rainsheave::control(before, word),
+        words::put_moved,
+    )
 }
 
 pub fn rainsheave_fault(device: &mut [i64; WORDS], code: u16) -> u8
     ensures { ChangeIs (λ d. fault_answer d code) device.old device.new result }
 {
-    let words = *device;
-    if !words::hold_device(words) {
-        return UNSOUND;
-    }
-    let change = rainsheave::fault(words::device_in(&*device), code);
-    moved_by(device, change)
+    changed(
+        device,
+        |before| rainsheave::fault(before, code),
+        words::put_moved,
+    )
 }
 
 pub fn rainsheave_tick(device: &mut [i64; WORDS]) -> u8
     ensures { ChangeIs tick_answer device.old device.new result }
 {
-    let words = *device;
-    if !words::hold_device(words) {
-        return UNSOUND;
-    }
-    let change = rainsheave::tick(words::device_in(&*device));
-    moved_by(device, change)
+    changed(device, rainsheave::tick, words::put_moved)
 }
 
 pub fn rainsheave_jump(device: &mut [i64; WORDS], ticks: u32) -> u8
     ensures { ChangeIs (λ d. jump_answer d ticks) device.old device.new result }
 {
-    let words = *device;
-    if !words::hold_device(words) {
-        return UNSOUND;
-    }
-    let change = rainsheave::jump(words::device_in(&*device), ticks);
-    moved_by(device, change)
+    changed(
+        device,
+        |before| rainsheave::jump(before, ticks),
+        words::put_moved,
+    )
 }
 
 // ---- queries
 
-fn not_told() -> Reading
-    ensures { result ≡ record { value = pos 0; number = Numbers.UNSOUND } }
+// What is told of the device that the words hold.
+fn told<F: FnOnce(Device) -> Result<i64, Refusal>>(device: &[i64; WORDS], query: F) -> Reading
+    requires { F.IsAlwaysCallable query }
+    ensures { Told (F.post query) device.now result }
 {
-    Reading {
-        value: 0,
-        number: UNSOUND,
+    if words::hold_device(*device) {
+        Reading::from(query(words::device_in(device)))
+    } else {
+        Reading::from(Err(Refusal::Unsound))
     }
 }
 
 pub fn rainsheave_state(device: &[i64; WORDS]) -> Reading
     ensures { QueryIs (λ d. pos d.state) device.now result }
 {
-    let words = *device;
-    if words::hold_device(words) {
-        rainsheave::state(words::device_in(device))
-    } else {
-        not_told()
-    }
+    told(device, rainsheave::state)
 }
 
 pub fn rainsheave_status(device: &[i64; WORDS]) -> Reading
     ensures { QueryIs (λ d. pos (status_of d)) device.now result }
 {
-    let words = *device;
-    if words::hold_device(words) {
-        rainsheave::status(words::device_in(device))
-    } else {
-        not_told()
-    }
+    told(device, rainsheave::status)
 }
 
 pub fn rainsheave_error(device: &[i64; WORDS]) -> Reading
     ensures { QueryIs (λ d. pos d.error) device.now result }
 {
-    let words = *device;
-    if words::hold_device(words) {
-        rainsheave::error(words::device_in(device))
-    } else {
-        not_told()
-    }
+    told(device, rainsheave::error)
 }
 
 pub fn rainsheave_position(device: &[i64; WORDS]) -> Reading
     ensures { QueryIs (λ d. d.block.position) device.now result }
 {
-    let words = *device;
-    if words::hold_device(words) {
-        rainsheave::position(words::device_in(device))
-    } else {
-        not_told()
-    }
+    told(device, rainsheave::position)
 }
 
 pub fn rainsheave_target(device: &[i64; WORDS]) -> Reading
     ensures { QueryIs (λ d. device_target d) device.now result }
 {
-    let words = *device;
-    if words::hold_device(words) {
-        rainsheave::target(words::device_in(device))
-    } else {
-        not_told()
-    }
+    told(device, rainsheave::target)
 }
 
 pub fn rainsheave_command(device: &[i64; WORDS]) -> Reading
     ensures { QueryIs (λ d. device_command d) device.now result }
 {
-    let words = *device;
-    if words::hold_device(words) {
-        rainsheave::command(words::device_in(device))
-    } else {
-        not_told()
-    }
+    told(device, rainsheave::command)
 }
 
 pub fn rainsheave_ticks_to_go(device: &[i64; WORDS]) -> Reading
     ensures { QueryIs (λ d. pos (device_ticks_to_go d)) device.now result }
 {
-    let words = *device;
-    if words::hold_device(words) {
-        rainsheave::ticks_to_go(words::device_in(device))
-    } else {
-        not_told()
-    }
+    told(device, rainsheave::ticks_to_go)
 }
 
 // ---- process data
 
-// A change that sets the position block's set points and moves the device goes to its words.
-fn received_by(device: &mut [i64; WORDS], change: Change) -> u8
-    requires { Receiving device.old change }
-    ensures { Stored change device.new result }
-{
-    let after = change.device;
-    let report = change.report;
-    match report {
-        Report::Done => {
-            words::put_set_points(device, after);
-            words::put_moved(device, after);
-            DONE
-        }
-        Report::Refused(number) => number,
-    }
-}
-
 pub fn rainsheave_receive(device: &mut [i64; WORDS], pdo: &[u8]) -> u8
     ensures { ChangeIs (λ d. receive_answer d pdo.now) device.old device.new result }
 {
-    let words = *device;
-    if !words::hold_device(words) {
-        return UNSOUND;
-    }
-    let change = rainsheave::receive(words::device_in(&*device), pdo);
-    received_by(device, change)
+    changed(
+        device,
+        |before| rainsheave::receive(before, pdo),
+        |words, after| {
+            words::put_set_points(words, after);
+            words::put_moved(words, after);
+        },
+    )
 }
 
 pub fn rainsheave_send(device: &[i64; WORDS], room: &mut [u8]) -> Sent
     ensures { SendIs device.now room.old room.new result }
 {
-    let words = *device;
-    if !words::hold_device(words) {
-        return Sent {
-            length: 0,
-            number: UNSOUND,
-        };
-    }
-    let sent = rainsheave::send(words::device_in(device), room);
-    let report = sent.report;
-    Sent {
-        length: sent.length,
-        number: rainsheave::number_of_report(report),
+    if words::hold_device(*device) {
+        Sent::from(rainsheave::send(words::device_in(device), room))
+    } else {
+        Sent::from(Err(Refusal::Unsound))
     }
 }
 
@@ -292,39 +263,20 @@ pub fn rainsheave_send(device: &[i64; WORDS], room: &mut [u8]) -> Sent
 pub fn rainsheave_store(device: &[i64; WORDS], room: &mut [u8]) -> u8
     ensures { StoreIs device.now room.old room.new result }
 {
-    let words = *device;
-    if !words::hold_device(words) {
+    if !words::hold_device(*device) {
         return UNSOUND;
     }
-    let report = rainsheave::store(words::device_in(device), room);
-    rainsheave::number_of_report(report)
-}
-
-// A change of the position block goes to the words.
-fn loaded_by(device: &mut [i64; WORDS], change: Change) -> u8
-    requires { Loading device.old change }
-    ensures { Stored change device.new result }
-{
-    let after = change.device;
-    let report = change.report;
-    match report {
-        Report::Done => {
-            words::put_position_block(device, after);
-            DONE
-        }
-        Report::Refused(number) => number,
-    }
+    rainsheave::number_of_report(rainsheave::store(words::device_in(device), room))
 }
 
 pub fn rainsheave_load(device: &mut [i64; WORDS], image: &[u8]) -> u8
     ensures { ChangeIs (λ d. load_answer d image.now) device.old device.new result }
 {
-    let words = *device;
-    if !words::hold_device(words) {
-        return UNSOUND;
-    }
-    let change = rainsheave::load(words::device_in(&*device), image);
-    loaded_by(device, change)
+    changed(
+        device,
+        |before| rainsheave::load(before, image),
+        words::put_position_block,
+    )
 }
 
 fn not_found(number: u8) -> Part

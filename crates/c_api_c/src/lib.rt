@@ -17,8 +17,7 @@ ghost use Rattle.c_api.specs.Exported.{
 };
 
 use c_api::length::FRAME;
-use c_api::{Part, Sent};
-use rainsheave::Reading;
+use c_api::{Part, Reading, Sent};
 use words::place::WORDS;
 
 #[unsafe(no_mangle)]

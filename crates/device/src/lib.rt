@@ -12,10 +12,13 @@ ghost use Rattle.device.specs.Queries.{target_met, status_of, device_target, dev
 ghost use Rattle.device.specs.Sound.{is_a_state, error_fits, selection_fits, sound_device, Sound};
 ghost use Rattle.device.specs.Sound as Sounds;
 
+pub mod refusal;
+
 use block::Block;
 use dither::Dither;
 use mapping::Maps;
 use objects::{POSITION, PRESSURE};
+pub use refusal::Refusal;
 
 #[derive(Clone, Copy, PartialEq, Eq)]
 pub struct Device {

@@ -2,7 +2,7 @@
 // A valve from switching on to the reset of its faults: set up by SDO, made ACTIVE and ticked along a ramp of type 2. Each line tells what
 // was done, and what became of it. examples/valve.c is the same program in C.
 use device::Device;
-use rainsheave::{Change, Report, index, word};
+use rainsheave::{Change, Refusal, index, word};
 use sdo::Outcome;
 use std::fmt::{Display, Formatter, Write};
 use std::{fmt, io};
@@ -49,29 +49,49 @@ fn name_of(state: i64) -> &'static str {
     }
 }
 
-// A valve as it is shown. No query refuses here: a device that the library has handed out is sound.
+// A valve as it is shown.
 #[derive(Clone, Copy)]
-struct Shown(Device);
+struct Shown {
+    state: i64,
+    status: i64,
+    command: i64,
+    ticks_to_go: i64,
+}
+
+impl Shown {
+    // No query refuses here: a device that the library has handed out is sound.
+    fn of(valve: Device) -> Result<Shown, Refusal> {
+        Ok(Shown {
+            state: rainsheave::state(valve)?,
+            status: rainsheave::status(valve)?,
+            command: rainsheave::command(valve)?,
+            ticks_to_go: rainsheave::ticks_to_go(valve)?,
+        })
+    }
+}
 
 impl Display for Shown {
     fn fmt<W: Write>(&self, f: &mut Formatter<W>) -> fmt::Result {
-        let state = name_of(rainsheave::state(self.0).value);
-        let status = rainsheave::status(self.0).value;
-        let command = rainsheave::command(self.0).value;
-        let ticks_to_go = rainsheave::ticks_to_go(self.0).value;
+        let state = name_of(self.state);
         write!(
             f,
-            "{state}, status {status}, command {command}, ticks to go {ticks_to_go}"
+            "{state}, status {}, command {}, ticks to go {}",
+            self.status, self.command, self.ticks_to_go
         )
+    }
+}
+
+fn show(rt: &impl Print, shown: Result<Shown, Refusal>) -> io::Result<()> {
+    match shown {
+        Ok(shown) => println!(rt; ": {shown}"),
+        Err(refusal) => println!(rt; ": refused by {}", refusal.number()),
     }
 }
 
 // A call that is refused hands the device back as it was.
 fn show_change(rt: &impl Print, change: Change) -> io::Result<Device> {
-    match change.report {
-        Report::Done => println!(rt; ": {}", Shown(change.device))?,
-        Report::Refused(number) => println!(rt; ": refused by {number}")?,
-    }
+    let shown = change.report.and_then(|()| Shown::of(change.device));
+    show(rt, shown)?;
     Ok(change.device)
 }
 
@@ -80,7 +100,7 @@ fn show_outcome(rt: &impl Print, outcome: Outcome) -> io::Result<()> {
         Outcome::Read { size: _, number } => println!(rt; ": value {number}"),
         Outcome::Written => println!(rt; ": done"),
         Outcome::Abort(code) => println!(rt; ": abort {code:08x}h"),
-        Outcome::Refused(number) => println!(rt; ": refused by {number}"),
+        Outcome::Refused(refusal) => println!(rt; ": refused by {}", refusal.number()),
     }
 }
 
@@ -122,7 +142,7 @@ fn fault(rt: &impl Print, valve: Device, code: u16) -> io::Result<Device> {
 // Writes the set point and ticks as often as the device says. Firmware ticks from a timer, once a millisecond, and puts the command out.
 fn go_to(rt: &impl Print, valve: Device, set_point: i32) -> io::Result<Device> {
     let mut valve = set(rt, valve, SET_POINT, set_point)?;
-    for tick in 1..=rainsheave::ticks_to_go(valve).value {
+    for tick in 1..=rainsheave::ticks_to_go(valve).unwrap_or(0) {
         print!(rt; "tick {tick}")?;
         valve = show_change(rt, rainsheave::tick(valve))?;
     }
@@ -152,7 +172,8 @@ fn fail_and_reset(rt: &impl Print, valve: Device) -> io::Result<Device> {
 
 fn main(rt: HostRuntime) -> io::Result<()> {
     let valve = rainsheave::fresh();
-    println!(rt; "fresh: {}", Shown(valve))?;
+    print!(rt; "fresh")?;
+    show(&rt, Shown::of(valve))?;
     let valve = set_up(&rt, valve)?;
     let valve = control(&rt, valve, GO_ACTIVE)?; // a word makes one move at most: this one to HOLD
     let valve = control(&rt, valve, GO_ACTIVE)?;

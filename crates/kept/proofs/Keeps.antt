@@ -18,6 +18,8 @@ use Rattle.image.specs.declared.Found.TheVariants.{Part, Cut, Ended}
 use Rattle.mapping.specs.Maps.{map_length}
 use Rattle.device.specs.Sound.{sound_device, Sound}
 use Rattle.device.specs.declared.Device.{Device}
+use Rattle.device.specs.declared.refusal.Refusal.{Refusal}
+use Rattle.device.specs.declared.refusal.Refusal.TheVariants.{Unsound, WrongLength, NoRoom, NoReplyDue}
 use Rattle.dictionary.specs.declared.Decision.{Decision}
 use Rattle.dictionary.specs.declared.Decision.TheVariants.{Read, Write, Abort}
 use Rattle.sdo.specs.Frames.{request_of, number_handed_back, replied_in}
@@ -72,18 +74,18 @@ sdo_kept request room d =
     by_cases (sound_device d)
     (λ e. by_cases (length request is 8)
     (λ f. by_cases (length room below 8)
-    (λ g. refusing 3 (λ z. omega (arith, z)) (rw (tells d e, f, g)) (rw (e, f, g, refused_room 3)))
+    (λ g. refusing 3 (λ z. omega (arith, z)) (rw (tells d e, f, g)) (rw (e, f, g, refused_room NoRoom)))
     (λ g. by_cases (byte request 0 / 32 is 4)
-    (λ h. refusing 4 (λ z. omega (arith, z)) (rw (tells d e, f, g, h)) (rw (e, f, g, h, refused_room 4)))
+    (λ h. refusing 4 (λ z. omega (arith, z)) (rw (tells d e, f, g, h)) (rw (e, f, g, h, refused_room NoReplyDue)))
     (λ h.
     let n : number_handed_back (served d (request_of request)).outcome ≡ 0 = (unfold served in no_number (decision_on d (request_of request))) in
     doing (rw (tells d e, f, g, h)) (rw (e, f, g, h) n) (rw (e, f, g, h) (request_told (is_sound e) request))
     (rw (e, f, g, h, n, reply_told (is_sound e) request room)))))
-    (λ f. refusing 2 (λ z. omega (arith, z)) (rw (tells d e, f)) (rw (e, f, refused_room 2))))
-    (λ e. refusing 1 (λ z. omega (arith, z)) (rw (tells d e)) (rw (e, refused_room 1)))
+    (λ f. refusing 2 (λ z. omega (arith, z)) (rw (tells d e, f)) (rw (e, f, refused_room WrongLength))))
+    (λ e. refusing 1 (λ z. omega (arith, z)) (rw (tells d e)) (rw (e, refused_room Unsound)))
   where
-    refused_room : (n : ℕ) → replied_in (Refused n) (request_of request) room ≡ room
-    refused_room n = unfold replied_in in refl
+    refused_room : (refusal : Refusal) → replied_in (Refused refusal) (request_of request) room ≡ room
+    refused_room refusal = unfold replied_in in refl
 
 -- ---- control words, faults, ticks and jumps
 

@@ -1,6 +1,6 @@
 -- C answers of words what the library answers of the device that they hold, and so keeps the library's promises: the words that a refused call
 -- leaves are those that came, and those that a call leaves which is done hold the library's device again. Words that hold none are unsound.
-use Rattle.std.specs.Prelude.{if◌then◌else◌}
+use Rattle.std.specs.Prelude.{if◌then◌else◌, Err}
 use mathlib.Core.Bool.{Bool, true, false, not, cond, ◌||◌}
 use mathlib.Core.List.{List, [], ◌∷◌}
 use mathlib.Core.Path.{◌≡◌, refl, sym, ap, ◌∙◌}
@@ -20,16 +20,15 @@ use Rattle.image.specs.declared.Found.TheVariants.{Part, Cut, Ended}
 use Rattle.device.specs.Device.{fresh_device, with_state}
 use Rattle.device.specs.Sound.{sound_device, Sound}
 use Rattle.device.specs.declared.Device.{Device}
+use Rattle.device.specs.declared.refusal.Refusal.TheVariants.{Unsound}
 use Rattle.device.proofs.Laws.{device_parts, state_below, block_of_sound, other_of_sound, receive_parts, transmit_parts}
 use Rattle.sdo.specs.Frames.{number_handed_back, replied_in}
-use Rattle.rainsheave.specs.Numbers.{UNSOUND}
-use Rattle.rainsheave.specs.Calls.{number_of_report, change, sdo_answer, sdo_room, control_answer, fault_answer, tick_answer, jump_answer}
+use Rattle.rainsheave.specs.Calls.{number_of_report, bytes_sent, change, sdo_answer, sdo_room, control_answer, fault_answer, tick_answer, jump_answer}
 use Rattle.rainsheave.specs.Calls.{query_answer, receive_answer, send_answer, send_room, store_answer, store_room, load_answer}
 use Rattle.rainsheave.specs.declared.Change.{Change}
-use Rattle.rainsheave.specs.declared.Report.TheVariants.{Refused}
 use Rattle.words.specs.Words.{WORDS, words_of, hold_device}
 use Rattle.words.proofs.Laws.{held_words}
-use Rattle.c_api.specs.Exported.{of_device, ChangeIs}
+use Rattle.c_api.specs.Exported.{of_device, ChangeIs, reading_of}
 use Rattle.c_api.specs.Promised.{HoldSound, Leads}
 use Rattle.c_api.proofs.Lasting.{lasting}
 use Rattle.promises.specs.Library.{Call, Answer, first}
@@ -179,7 +178,7 @@ module _ (words : List ℤ) (long : length words ≡ WORDS) where
       let given : Answer (List ℤ) = record { state = words_after words c.device; reply = (changing c).reply } in
       given ≡ record { state = after; reply = replied r [] (pos 0) }
 
-  changes : (f : Device → Change) → f none ≡ change (Refused UNSOUND) none → (after : List ℤ) (r : ℕ) → ChangeIs f words after r → Changed f after r
+  changes : (f : Device → Change) → f none ≡ change (Err Unsound) none → (after : List ℤ) (r : ℕ) → ChangeIs f words after r → Changed f after r
   changes f e after r c =
       let number = tells (λ d. number_of_report (f d).report) (ap (λ (x : Change). number_of_report x.report) e) c.number in
       let now = leaves (λ d. (f d).device) (ap (λ (x : Change). x.device) e) c.words in
@@ -203,11 +202,11 @@ module _ (words : List ℤ) (long : length words ≡ WORDS) where
             let bytes = tells (λ d. sdo_room d request room) (rw none_unsound) c.bytes in
             λ i. record { state = now i; reply = replied (number i) (bytes i) (pos 0) };
         query = λ q value c.
-            let told = tells (λ d. query_answer d (value_of q d)) (rw none_unsound) c.result in
+            let told = tells (λ d. reading_of (query_answer d (value_of q d))) (rw none_unsound) c.result in
             λ i. record { state = stays words refl i; reply = replied (told i).number [] (told i).value };
         send = λ size c.
-            let number = tells (λ d. number_of_report (send_answer d (length room)).report) (rw none_unsound) c.number in
-            let sent = tells (λ d. (send_answer d (length room)).length) (rw none_unsound) c.sent in
+            let number = tells (λ d. number_of_report (send_answer d (length room))) (rw none_unsound) c.number in
+            let sent = tells (λ d. bytes_sent (send_answer d (length room))) (rw none_unsound) c.sent in
             let bytes = tells (λ d. send_room d room) (rw none_unsound) c.bytes in
             λ i. record { state = stays words refl i; reply = replied (number i) (bytes i) (pos (sent i)) };
         store = λ c.

@@ -1,13 +1,11 @@
 -- Every call's result is determined: two results that meet its contract, on the same arguments, are equal, and so are
 -- the bytes that they leave.
-use Rattle.std.specs.Prelude.{List, ◌≡◌, ℕ}
+use Rattle.std.specs.Prelude.{List, ◌≡◌, ℕ, ℤ, Result}
 use Rattle.device.specs.declared.Device.{Device}
+use Rattle.device.specs.declared.refusal.Refusal.{Refusal}
 use Rattle.sdo.specs.declared.Answer.{Answer}
-use Rattle.rainsheave.specs.declared.Settled.{Settled}
-use Rattle.rainsheave.specs.declared.Report.{Report}
 use Rattle.rainsheave.specs.declared.Change.{Change}
-use Rattle.rainsheave.specs.declared.Reading.{Reading}
-use Rattle.rainsheave.specs.declared.Sent.{Sent}
+use Rattle.rainsheave.specs.Calls.{Settled, Report}
 use Rattle.rainsheave.specs.Fixed.{FreshIs, SdoIs, SettleIs, ControlIs, FaultIs, TickIs, JumpIs, ReceiveIs, SendIs}
 use Rattle.rainsheave.specs.Fixed.{StoreIs, LoadIs, FindIs, FindCodeIs}
 use Rattle.rainsheave.specs.Fixed.{StateIs, StatusIs, ErrorIs, PositionIs, TargetIs, CommandIs, TicksToGoIs}
@@ -24,16 +22,16 @@ pub record Determined : Type 1 where
   pub fault : {d : Device} {code : ℕ} {r s : Change} → FaultIs d code r → FaultIs d code s → r ≡ s
   pub tick : {d : Device} {r s : Change} → TickIs d r → TickIs d s → r ≡ s
   pub jump : {d : Device} {n : ℕ} {r s : Change} → JumpIs d n r → JumpIs d n s → r ≡ s
-  pub state : {d : Device} {r s : Reading} → StateIs d r → StateIs d s → r ≡ s
-  pub status : {d : Device} {r s : Reading} → StatusIs d r → StatusIs d s → r ≡ s
-  pub error : {d : Device} {r s : Reading} → ErrorIs d r → ErrorIs d s → r ≡ s
-  pub position : {d : Device} {r s : Reading} → PositionIs d r → PositionIs d s → r ≡ s
-  pub target : {d : Device} {r s : Reading} → TargetIs d r → TargetIs d s → r ≡ s
-  pub command : {d : Device} {r s : Reading} → CommandIs d r → CommandIs d s → r ≡ s
-  pub ticks_to_go : {d : Device} {r s : Reading} → TicksToGoIs d r → TicksToGoIs d s → r ≡ s
+  pub state : {d : Device} {r s : Result ℤ Refusal} → StateIs d r → StateIs d s → r ≡ s
+  pub status : {d : Device} {r s : Result ℤ Refusal} → StatusIs d r → StatusIs d s → r ≡ s
+  pub error : {d : Device} {r s : Result ℤ Refusal} → ErrorIs d r → ErrorIs d s → r ≡ s
+  pub position : {d : Device} {r s : Result ℤ Refusal} → PositionIs d r → PositionIs d s → r ≡ s
+  pub target : {d : Device} {r s : Result ℤ Refusal} → TargetIs d r → TargetIs d s → r ≡ s
+  pub command : {d : Device} {r s : Result ℤ Refusal} → CommandIs d r → CommandIs d s → r ≡ s
+  pub ticks_to_go : {d : Device} {r s : Result ℤ Refusal} → TicksToGoIs d r → TicksToGoIs d s → r ≡ s
   pub receive : {d : Device} {pdo : List ℕ} {r s : Change} → ReceiveIs d pdo r → ReceiveIs d pdo s → r ≡ s
   pub send :
-      {d : Device} {before after after' : List ℕ} {r s : Sent} →
+      {d : Device} {before after after' : List ℕ} {r s : Result ℕ Refusal} →
       SendIs d before after r → SendIs d before after' s → (r ≡ s) × (after ≡ after')
   pub store :
       {d : Device} {before after after' : List ℕ} {r s : Report} →

@@ -14,7 +14,7 @@ use Rattle.sdo.specs.Frames.{number_handed_back}
 use Rattle.rainsheave.specs.Calls.{sdo_answer, sdo_room, control_answer, fault_answer, tick_answer, jump_answer}
 use Rattle.rainsheave.specs.Calls.{query_answer}
 use Rattle.rainsheave.specs.Calls.{receive_answer, send_answer, send_room, store_answer, store_room, load_answer}
-use Rattle.rainsheave.specs.Calls.{number_of_report}
+use Rattle.rainsheave.specs.Calls.{number_of_report, value_told, bytes_sent}
 use Rattle.rainsheave.specs.declared.Change.{Change}
 use Rattle.promises.specs.Library.{Query, Call}
 use Rattle.promises.specs.Library.{fresh, sdo, control, fault, tick, jump, query, receive, send, store, load}
@@ -51,11 +51,11 @@ answer_of tick d = changing (tick_answer d)
 answer_of (jump n) d = changing (jump_answer d n)
 answer_of (query q) d =
     let r = query_answer d (value_of q d) in
-    record { state = d; reply = replied r.number [] r.value }
+    record { state = d; reply = replied (number_of_report r) [] (value_told r) }
 answer_of (receive pdo) d = changing (receive_answer d pdo)
 answer_of (send room) d =
     let a = send_answer d (length room) in
-    record { state = d; reply = replied (number_of_report a.report) (send_room d room) (pos a.length) }
+    record { state = d; reply = replied (number_of_report a) (send_room d room) (pos (bytes_sent a)) }
 answer_of (store room) d =
     let number = number_of_report (store_answer d (length room)) in
     record { state = d; reply = replied number (store_room d room) (pos 0) }

@@ -20,6 +20,8 @@ use Rattle.mapping.specs.Maps.{counted, map_length}
 use Rattle.device.specs.Events.{controlled}
 use Rattle.device.specs.Sound.{sound_device, Sound}
 use Rattle.device.specs.declared.Device.{Device}
+use Rattle.device.specs.declared.refusal.Refusal.{Refusal}
+use Rattle.device.specs.declared.refusal.Refusal.TheVariants.{Unsound, WrongLength, NoRoom, NoReplyDue}
 use Rattle.device.proofs.Laws as Devices
 use Rattle.dictionary.specs.Named.{named}
 use Rattle.dictionary.specs.Values.{written_to}
@@ -33,29 +35,28 @@ use Rattle.sdo.specs.declared.Outcome.TheVariants.{Written, Refused}
 use Rattle.sdo.specs.declared.Answer.{Answer}
 use Rattle.sdo.proofs.Promises.{not_written_unchanged, served_sound}
 use Rattle.pdo.proofs.Laws.{received_sound}
-use Rattle.rainsheave.specs.Numbers.{UNSOUND, WRONG_LENGTH, NO_ROOM, NO_REPLY_DUE}
 use Rattle.rainsheave.specs.Calls.{is_client_abort, sdo_answer, sdo_room, number_of_report, changed, control_answer, fault_answer, tick_answer, jump_answer, receive_answer}
 use Rattle.rainsheave.specs.declared.Change.{Change}
 
 -- ---- a refusal leaves everything as it was
 
 -- what holds of a refusal, which hands the device back, and of what is served, to eight bytes, holds of the answer
-pub by_sdo : (P : Answer → Type 0) (d : Device) (request : List ℕ) (room : ℕ) → ((number : ℕ) → P (answer (Refused number) d)) → (length request ≡ FRAME → P (served d (request_of request))) → P (sdo_answer d request room)
+pub by_sdo : (P : Answer → Type 0) (d : Device) (request : List ℕ) (room : ℕ) → ((refusal : Refusal) → P (answer (Refused refusal) d)) → (length request ≡ FRAME → P (served d (request_of request))) → P (sdo_answer d request room)
 unfolding sdo_answer
 by_sdo P d request room refused done =
-    by_test P (not (sound_device d)) (λ e. refused UNSOUND)
-    (λ e. by_test P (not (eqb (length request) FRAME)) (λ f. refused WRONG_LENGTH)
-    (λ f. by_test P (ltb room FRAME) (λ g. refused NO_ROOM)
-    (λ g. by_test P (is_client_abort (byte_at request 0)) (λ i. refused NO_REPLY_DUE) (λ i. done (eqb-true _ _ (not-false _ f))))))
+    by_test P (not (sound_device d)) (λ e. refused Unsound)
+    (λ e. by_test P (not (eqb (length request) FRAME)) (λ f. refused WrongLength)
+    (λ f. by_test P (ltb room FRAME) (λ g. refused NoRoom)
+    (λ g. by_test P (is_client_abort (byte_at request 0)) (λ i. refused NoReplyDue) (λ i. done (eqb-true _ _ (not-false _ f))))))
 
 -- whatever is answered but a write done, the device is the given one
 pub sdo_unchanged : (d : Device) (request : List ℕ) (room : ℕ) → (sdo_answer d request room).outcome ≢ Written → (sdo_answer d request room).device ≡ d
-sdo_unchanged d request room = by_sdo (λ a. a.outcome ≢ Written → a.device ≡ d) d request room (λ number h. refl) (λ l. not_written_unchanged d (request_of request))
+sdo_unchanged d request room = by_sdo (λ a. a.outcome ≢ Written → a.device ≡ d) d request room (λ refusal h. refl) (λ l. not_written_unchanged d (request_of request))
 
 -- and a refusal writes nothing
-pub refusal_writes_nothing : (d : Device) (request before : List ℕ) (number : ℕ) → (sdo_answer d request (length before)).outcome ≡ Refused number → sdo_room d request before ≡ before
+pub refusal_writes_nothing : (d : Device) (request before : List ℕ) (refusal : Refusal) → (sdo_answer d request (length before)).outcome ≡ Refused refusal → sdo_room d request before ≡ before
 unfolding sdo_room replied_in
-refusal_writes_nothing d request before number e = rw e
+refusal_writes_nothing d request before refusal e = rw e
 
 -- a call that changes the device does so where its number is 0 alone
 pub refused_unchanged : (d : Device) (c : Change) → (number_of_report c.report ≢ 0 → c.device ≡ d) → number_of_report (changed d c).report ≢ 0 → (changed d c).device ≡ d
@@ -64,7 +65,7 @@ refused_unchanged d c = by_cases (sound_device d) (λ e f. rw e f) (λ e f. rw e
 -- ---- a sound device stays sound
 
 pub sdo_sound : {d : Device} → Sound d → (request : List ℕ) (room : ℕ) → Sound (sdo_answer d request room).device
-sdo_sound {d} s request room = by_sdo (λ a. Sound a.device) d request room (λ number. s) (λ l. served_sound s (request_of request))
+sdo_sound {d} s request room = by_sdo (λ a. Sound a.device) d request room (λ refusal. s) (λ l. served_sound s (request_of request))
 
 changed_sound : {d : Device} (c : Change) → Sound d → Sound c.device → Sound (changed d c).device
 changed_sound c s h = rw s.sound h

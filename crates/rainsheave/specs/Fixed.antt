@@ -1,17 +1,14 @@
--- What each call's result is fixed to be, in every case: the number, the value, the device, and every byte of each lent buffer.
-use Rattle.std.specs.Prelude.{List, ◌≡◌, ℕ, ◌+◌, pos, length}
+-- What each call's result is fixed to be, in every case: the refusal or the value, the device, and every byte of each lent buffer.
+use Rattle.std.specs.Prelude.{List, ◌≡◌, ℕ, ◌+◌, ℤ, pos, length, Result}
 use Rattle.device.specs.Device.{fresh_device}
 use Rattle.device.specs.Queries.{status_of, device_target, device_command, device_ticks_to_go}
 use Rattle.device.specs.declared.Device.{Device}
+use Rattle.device.specs.declared.refusal.Refusal.{Refusal}
 use Rattle.sdo.specs.declared.Answer.{Answer}
-use Rattle.rainsheave.specs.Calls.{sdo_answer, sdo_settled, sdo_room, control_answer, fault_answer, tick_answer, jump_answer, query_answer}
+use Rattle.rainsheave.specs.Calls.{Report, Settled, sdo_answer, sdo_settled, sdo_room, control_answer, fault_answer, tick_answer, jump_answer, query_answer}
 use Rattle.rainsheave.specs.Calls.{receive_answer, send_answer, send_room, store_answer, store_room, load_answer}
 use Rattle.image.specs.Walk.{walk, part_of, begin_of, code_of}
-use Rattle.rainsheave.specs.declared.Settled.{Settled}
-use Rattle.rainsheave.specs.declared.Report.{Report}
 use Rattle.rainsheave.specs.declared.Change.{Change}
-use Rattle.rainsheave.specs.declared.Reading.{Reading}
-use Rattle.rainsheave.specs.declared.Sent.{Sent}
 
 -- `fresh`
 pub record FreshIs (r : Device) : Type 0 where
@@ -44,31 +41,31 @@ pub record JumpIs (d : Device) (n : ℕ) (r : Change) : Type 0 where
   pub result : r ≡ jump_answer d n
 
 -- `state`
-pub record StateIs (d : Device) (r : Reading) : Type 0 where
+pub record StateIs (d : Device) (r : Result ℤ Refusal) : Type 0 where
   pub result : r ≡ query_answer d (pos d.state)
 
 -- `status`: the status word
-pub record StatusIs (d : Device) (r : Reading) : Type 0 where
+pub record StatusIs (d : Device) (r : Result ℤ Refusal) : Type 0 where
   pub result : r ≡ query_answer d (pos (status_of d))
 
 -- `error`: the error code
-pub record ErrorIs (d : Device) (r : Reading) : Type 0 where
+pub record ErrorIs (d : Device) (r : Result ℤ Refusal) : Type 0 where
   pub result : r ≡ query_answer d (pos d.error)
 
 -- `position` of the selected block, in 1/65,536 ir
-pub record PositionIs (d : Device) (r : Reading) : Type 0 where
+pub record PositionIs (d : Device) (r : Result ℤ Refusal) : Type 0 where
   pub result : r ≡ query_answer d d.block.position
 
 -- `target`, in ir
-pub record TargetIs (d : Device) (r : Reading) : Type 0 where
+pub record TargetIs (d : Device) (r : Result ℤ Refusal) : Type 0 where
   pub result : r ≡ query_answer d (device_target d)
 
 -- `command`, in ir
-pub record CommandIs (d : Device) (r : Reading) : Type 0 where
+pub record CommandIs (d : Device) (r : Result ℤ Refusal) : Type 0 where
   pub result : r ≡ query_answer d (device_command d)
 
 -- `ticks_to_go`
-pub record TicksToGoIs (d : Device) (r : Reading) : Type 0 where
+pub record TicksToGoIs (d : Device) (r : Result ℤ Refusal) : Type 0 where
   pub result : r ≡ query_answer d (pos (device_ticks_to_go d))
 
 -- `receive` of a PDO
@@ -76,7 +73,7 @@ pub record ReceiveIs (d : Device) (pdo : List ℕ) (r : Change) : Type 0 where
   pub result : r ≡ receive_answer d pdo
 
 -- `send`, with the room for the PDO before and after
-pub record SendIs (d : Device) (before after : List ℕ) (r : Sent) : Type 0 where
+pub record SendIs (d : Device) (before after : List ℕ) (r : Result ℕ Refusal) : Type 0 where
   pub result : r ≡ send_answer d (length before)
   pub bytes : after ≡ send_room d before
 

@@ -1,10 +1,10 @@
 #![tactic(auto)]
 // Rainsheave, the public library: every call, for every frame, image, event and state that can be handed in. No call has a `requires`:
 // what is not allowed is refused by number, the device comes back as it came, and a refusal writes nothing.
-ghost use Rattle.std.specs.Prelude.{◌≡◌, pos};
-ghost use Rattle.device.specs.Sound.{sound_device};
+ghost use Rattle.std.specs.Prelude.{◌≡◌, false, Ok, Err, OnOk, OnErr, IfErr};
+ghost use Rattle.device.specs.Sound.{sound_device, Sound};
 ghost use Rattle.sdo.specs.Serve.{answer};
-ghost use Rattle.rainsheave.specs.Calls.{change, pdo_sent, number_of_report};
+ghost use Rattle.rainsheave.specs.Calls.{change, number_of_report};
 ghost use Rattle.sdo.specs.Frames.{number_handed_back};
 ghost use Rattle.rainsheave.specs.Fixed.{
   FreshIs,
@@ -33,10 +33,8 @@ pub mod abort;
 pub mod number;
 pub mod word;
 
-use crate::number::{
-    BAD_VALUE, NO_FAULT, NO_IMAGE_ROOM, NO_REPLY_DUE, NO_ROOM, NOT_DISABLED, NOT_FULL, SHORT_PDO,
-    UNSOUND, WRONG_LENGTH,
-};
+use crate::number::DONE;
+pub use device::Refusal;
 use device::{DISABLED, Device};
 use dictionary::Decision;
 pub use mapping::{RECEIVABLE, SENDABLE};
@@ -44,19 +42,11 @@ pub use objects::{POSITION, PRESSURE, index};
 use sdo::{Answer, Outcome};
 pub use sdo::{number_of as number_of_outcome, read_request, write_request};
 
-// What becomes of an SDO request: it is refused by a number, or decided.
-#[derive(Clone, Copy)]
-pub enum Settled {
-    Refused(u8),
-    Decided(Decision),
-}
+// What becomes of an SDO request: it is decided, or refused.
+pub type Settled = Result<Decision, Refusal>;
 
-// What becomes of a call that changes the device.
-#[derive(Clone, Copy)]
-pub enum Report {
-    Done,
-    Refused(u8),
-}
+// What becomes of a call that has nothing else to tell.
+pub type Report = Result<(), Refusal>;
 
 // A report beside the device as it is then.
 #[derive(Clone, Copy)]
@@ -65,71 +55,51 @@ pub struct Change {
     pub report: Report,
 }
 
-// The answer of a query: the number handed back, and the value, which is 0 where the number is not.
-#[repr(C)]
-#[derive(Clone, Copy)]
-pub struct Reading {
-    pub value: i64,
-    pub number: u8,
-}
-
-// What was sent: a report beside how many bytes were written, which are none where it is refused.
-#[derive(Clone, Copy)]
-pub struct Sent {
-    pub length: usize,
-    pub report: Report,
-}
-
-fn refused_request(device: Device, number: u8) -> Answer
-    ensures { result ≡ answer (Outcome.Refused number) device }
+fn refused_request(device: Device, refusal: Refusal) -> Answer
+    ensures { result ≡ answer (Outcome.Refused refusal) device }
 {
-    let outcome = Outcome::Refused(number);
+    let outcome = Outcome::Refused(refusal);
     Answer { device, outcome }
 }
 
-fn refused(device: Device, number: u8) -> Change
-    ensures { result ≡ change (Report.Refused number) device }
+fn refused(device: Device, refusal: Refusal) -> Change
+    ensures { result ≡ change (Err refusal) device }
 {
-    let report = Report::Refused(number);
-    Change { device, report }
-}
-
-fn done(device: Device) -> Change
-    ensures { result ≡ change Report.Done device }
-{
-    let report = Report::Done;
-    Change { device, report }
-}
-
-fn not_sent(number: u8) -> Sent
-    ensures { result ≡ pdo_sent (Report.Refused number) 0 }
-{
-    let report = Report::Refused(number);
-    Sent { length: 0, report }
-}
-
-fn told(value: i64) -> Reading
-    ensures { result ≡ record { value = value; number = 0 } }
-{
-    Reading { value, number: 0 }
-}
-
-fn not_told() -> Reading
-    ensures { result ≡ record { value = pos 0; number = 1 } }
-{
-    Reading {
-        value: 0,
-        number: UNSOUND,
+    Change {
+        device,
+        report: Err(refusal),
     }
 }
 
-// The number handed back beside a report.
-pub fn number_of_report(report: Report) -> u8
+fn done(device: Device) -> Change
+    ensures { result ≡ change (Ok tt) device }
+{
+    Change {
+        device,
+        report: Ok(()),
+    }
+}
+
+// A device that is not sound is refused.
+fn require_sound(device: Device) -> Report
+    ensures passed { OnOk result (Sound device) }
+    ensures refused { IfErr result (λ refusal. refusal ≡ Refusal.Unsound) }
+    ensures unsound { OnErr result (sound_device device ≡ false) }
+{
+    if device::is_sound(device) {
+        Ok(())
+    } else {
+        Err(Refusal::Unsound)
+    }
+}
+
+// The number handed back beside a report, or in place of what a call tells.
+pub fn number_of_report<T: Copy>(report: Result<T, Refusal>) -> u8
     ensures { result ≡ number_of_report report }
 {
     match report {
-        Report::Done => 0,
-        Report::Refused(number) => number,
+        Ok(_) => DONE,
+        Err(refusal) => refusal.number(),
     }
 }
 
@@ -145,23 +115,21 @@ pub fn fresh() -> Device
 pub fn settle(device: Device, request: &[u8], reply: &mut [u8]) -> Settled
     ensures { SettleIs device request.now reply.old reply.new result }
 {
-    if !device::is_sound(device) {
-        return Settled::Refused(UNSOUND);
-    }
+    require_sound(device)?;
     if request.len() != 8 {
-        return Settled::Refused(WRONG_LENGTH);
+        return Err(Refusal::WrongLength);
     }
     if reply.len() < 8 {
-        return Settled::Refused(NO_ROOM);
+        return Err(Refusal::NoRoom);
     }
     let asked = sdo::request_of(request);
     if asked.command / 32 == 4 {
-        return Settled::Refused(NO_REPLY_DUE);
+        return Err(Refusal::NoReplyDue);
     }
     let decision = sdo::decision_on(device, asked);
     let outcome = sdo::outcome_of(decision);
     sdo::reply(outcome, asked, reply);
-    Settled::Decided(decision)
+    Ok(decision)
 }
 
 // An SDO request. The reply goes to the first eight bytes of the room.
@@ -169,8 +137,8 @@ pub fn sdo(device: Device, request: &[u8], reply: &mut [u8]) -> Answer
     ensures { SdoIs device request.now reply.old reply.new result }
 {
     match settle(device, request, reply) {
-        Settled::Refused(number) => refused_request(device, number),
-        Settled::Decided(decision) => sdo::answer_to(device, decision),
+        Ok(decided) => sdo::answer_to(device, decided),
+        Err(refusal) => refused_request(device, refusal),
     }
 }
 
@@ -182,7 +150,7 @@ pub fn control(device: Device, word: u16) -> Change
     if device::is_sound(device) {
         done(device::control(device, word))
     } else {
-        refused(device, UNSOUND)
+        refused(device, Refusal::Unsound)
     }
 }
 
@@ -192,10 +160,10 @@ pub fn fault(device: Device, code: u16) -> Change
     ensures { FaultIs device code result }
 {
     if !device::is_sound(device) {
-        return refused(device, UNSOUND);
+        return refused(device, Refusal::Unsound);
     }
     if code == 0 {
-        return refused(device, NO_FAULT);
+        return refused(device, Refusal::NoFault);
     }
     done(device::fault(device, code))
 }
@@ -208,7 +176,7 @@ pub fn tick(device: Device) -> Change
     if device::is_sound(device) {
         done(device::tick(device))
     } else {
-        refused(device, UNSOUND)
+        refused(device, Refusal::Unsound)
     }
 }
 
@@ -220,93 +188,71 @@ pub fn jump(device: Device, n: u32) -> Change
     if device::is_sound(device) {
         done(device::jump(device, n))
     } else {
-        refused(device, UNSOUND)
+        refused(device, Refusal::Unsound)
     }
 }
 
 // The state: 0 DISABLED, 1 HOLD, 2 ACTIVE, 3 FAULT.
 #[tactic(auto, unfolding(crate::specs::Calls::query_answer))]
-pub fn state(device: Device) -> Reading
+pub fn state(device: Device) -> Result<i64, Refusal>
     ensures { StateIs device result }
 {
-    if device::is_sound(device) {
-        told(device.state as i64)
-    } else {
-        not_told()
-    }
+    require_sound(device)?;
+    Ok(device.state as i64)
 }
 
 // The status word.
 #[tactic(auto, unfolding(crate::specs::Calls::query_answer))]
-pub fn status(device: Device) -> Reading
+pub fn status(device: Device) -> Result<i64, Refusal>
     ensures { StatusIs device result }
 {
-    if device::is_sound(device) {
-        told(device::status(device) as i64)
-    } else {
-        not_told()
-    }
+    require_sound(device)?;
+    Ok(device::status(device) as i64)
 }
 
 // The error code: 0 but in FAULT.
 #[tactic(auto, unfolding(crate::specs::Calls::query_answer))]
-pub fn error(device: Device) -> Reading
+pub fn error(device: Device) -> Result<i64, Refusal>
     ensures { ErrorIs device result }
 {
-    if device::is_sound(device) {
-        told(device.error as i64)
-    } else {
-        not_told()
-    }
+    require_sound(device)?;
+    Ok(device.error as i64)
 }
 
 // The position of the selected block, in 1/65,536 ir.
 #[tactic(auto, unfolding(crate::specs::Calls::query_answer))]
-pub fn position(device: Device) -> Reading
+pub fn position(device: Device) -> Result<i64, Refusal>
     ensures { PositionIs device result }
 {
-    if device::is_sound(device) {
-        let block = device.block;
-        told(block.position)
-    } else {
-        not_told()
-    }
+    require_sound(device)?;
+    Ok(device.block.position)
 }
 
 // The target, in ir.
 #[tactic(auto, unfolding(crate::specs::Calls::query_answer))]
-pub fn target(device: Device) -> Reading
+pub fn target(device: Device) -> Result<i64, Refusal>
     ensures { TargetIs device result }
 {
-    if device::is_sound(device) {
-        told(device::target(device))
-    } else {
-        not_told()
-    }
+    require_sound(device)?;
+    Ok(device::target(device))
 }
 
 // The command, in ir.
 #[tactic(auto, unfolding(crate::specs::Calls::query_answer))]
-pub fn command(device: Device) -> Reading
+pub fn command(device: Device) -> Result<i64, Refusal>
     ensures { CommandIs device result }
 {
-    if device::is_sound(device) {
-        told(device::command(device))
-    } else {
-        not_told()
-    }
+    require_sound(device)?;
+    Ok(device::command(device))
 }
 
 // The ticks until the target is met.
 #[tactic(auto, unfolding(crate::specs::Calls::query_answer))]
-pub fn ticks_to_go(device: Device) -> Reading
+pub fn ticks_to_go(device: Device) -> Result<i64, Refusal>
     ensures { TicksToGoIs device result }
 {
-    if device::is_sound(device) {
-        told(device::ticks_to_go(device) as i64)
-    } else {
-        not_told()
-    }
+    require_sound(device)?;
+    Ok(device::ticks_to_go(device) as i64)
 }
 
 // A PDO is received: the first bytes act as its map says.
@@ -315,33 +261,26 @@ pub fn receive(device: Device, pdo: &[u8]) -> Change
     ensures { ReceiveIs device pdo.now result }
 {
     if !device::is_sound(device) {
-        return refused(device, UNSOUND);
+        return refused(device, Refusal::Unsound);
     }
-    let maps = device.maps;
-    let map = maps.receive;
-    if pdo.len() < mapping::length(map) {
-        return refused(device, SHORT_PDO);
+    if pdo.len() < mapping::length(device.maps.receive) {
+        return refused(device, Refusal::ShortPdo);
     }
     done(pdo::receive(device, pdo))
 }
 
-// A PDO is sent: the mapped values go to the first bytes of the room.
+// A PDO is sent: the mapped values go to the first bytes of the room. Told is how many bytes were written.
 #[tactic(auto, using(crate::proofs::Sound::transmit_few), unfolding(crate::specs::Calls::send_room, crate::specs::Calls::send_answer))]
-pub fn send(device: Device, room: &mut [u8]) -> Sent
+pub fn send(device: Device, room: &mut [u8]) -> Result<usize, Refusal>
     ensures { SendIs device room.old room.new result }
 {
-    if !device::is_sound(device) {
-        return not_sent(UNSOUND);
-    }
-    let maps = device.maps;
-    let map = maps.transmit;
-    let length = mapping::length(map);
+    require_sound(device)?;
+    let length = mapping::length(device.maps.transmit);
     if room.len() < length {
-        return not_sent(NO_ROOM);
+        return Err(Refusal::NoRoom);
     }
     pdo::send(device, room);
-    let report = Report::Done;
-    Sent { length, report }
+    Ok(length)
 }
 
 // The image of the position block's settings, whichever block is selected, goes to the first 97 bytes of the room.
@@ -349,16 +288,13 @@ pub fn send(device: Device, room: &mut [u8]) -> Sent
 pub fn store(device: Device, room: &mut [u8]) -> Report
     ensures { StoreIs device room.old room.new result }
 {
-    if !device::is_sound(device) {
-        return Report::Refused(UNSOUND);
-    }
+    require_sound(device)?;
     if room.len() < image::IMAGE_LENGTH {
-        return Report::Refused(NO_IMAGE_ROOM);
+        return Err(Refusal::NoImageRoom);
     }
     let stored = device::block_of(device, POSITION);
-    let settings = stored.settings;
-    image::store(settings, room);
-    Report::Done
+    image::store(stored.settings, room);
+    Ok(())
 }
 
 // All the settings of a full image, or none, go to the position block.
@@ -367,17 +303,17 @@ pub fn load(device: Device, image: &[u8]) -> Change
     ensures { LoadIs device image.now result }
 {
     if !device::is_sound(device) {
-        return refused(device, UNSOUND);
+        return refused(device, Refusal::Unsound);
     }
     if device.state != DISABLED {
-        return refused(device, NOT_DISABLED);
+        return refused(device, Refusal::NotDisabled);
     }
     if !image::is_full(image) {
-        return refused(device, NOT_FULL);
+        return refused(device, Refusal::NotFull);
     }
     let settings = image::settings_in(image);
     if !block::sound_settings(settings) {
-        return refused(device, BAD_VALUE);
+        return refused(device, Refusal::BadValue);
     }
     let block = device::block_of(device, POSITION);
     let block = block::with_settings(block, settings);

@@ -2,6 +2,7 @@
 use Rattle.std.specs.Prelude.{Bool, true, false, List, [], ◌∷◌, ◌++◌, ℕ, ◌%◌, ◌/◌, drop, if◌then◌else◌}
 use Rattle.integers.specs.Words.{◌is◌}
 use Rattle.coding.specs.Bytes.{byte_at, two_of, four_of, four_bytes}
+use Rattle.device.specs.Numbers.{number_of_refusal}
 use Rattle.sdo.specs.declared.Request.{Request}
 use Rattle.sdo.specs.declared.Asks.{Asks}
 use Rattle.sdo.specs.declared.Asks.TheVariants.{Reads, Writes, Unknown}
@@ -68,14 +69,14 @@ abbrev pub reply_of : Outcome → Request → List ℕ
 reply_of (Read size number) q = frame_of (read_reply size) q.index q.sub number
 reply_of Written q = frame_of 0x60 q.index q.sub 0
 reply_of (Abort code) q = frame_of 0x80 q.index q.sub code
-reply_of (Refused number) q = []
+reply_of (Refused refusal) q = []
 
 -- a reply is due to all but a refusal
 abbrev pub is_due : Outcome → Bool
 is_due (Read size number) = true
 is_due Written = true
 is_due (Abort code) = true
-is_due (Refused number) = false
+is_due (Refused refusal) = false
 
 -- the room after the reply: it goes to the first eight bytes and later bytes stay; a refusal writes nothing
 unfoldable pub replied_in : Outcome → Request → List ℕ → List ℕ
@@ -86,4 +87,4 @@ abbrev pub number_handed_back : Outcome → ℕ
 number_handed_back (Read size number) = 0
 number_handed_back Written = 0
 number_handed_back (Abort code) = 0
-number_handed_back (Refused number) = number
+number_handed_back (Refused refusal) = number_of_refusal refusal

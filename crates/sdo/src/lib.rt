@@ -7,7 +7,7 @@ ghost use Rattle.dictionary.specs.Asked.{Decided};
 ghost use Rattle.sdo.specs.Serve.{decision_on, outcome_of, answer_to};
 ghost use Rattle.sdo.specs.Asked.{EightBytes, Due, ReplyRoom};
 
-use device::Device;
+use device::{Device, Refusal};
 use dictionary::{Decision, UNKNOWN_COMMAND};
 
 // What a request says; the number is that of its four data bytes.
@@ -27,13 +27,13 @@ pub enum Asks {
     Unknown,
 }
 
-// What a request leads to: so many bytes of a number read, a write done, an abort with its code, or a refusal with its number.
+// What a request leads to: so many bytes of a number read, a write done, an abort with its code, or a refusal.
 #[derive(Clone, Copy)]
 pub enum Outcome {
     Read { size: u8, number: u32 },
     Written,
     Abort(u32),
-    Refused(u8),
+    Refused(Refusal),
 }
 
 // An outcome beside the device as it is then.
@@ -220,6 +220,6 @@ pub fn number_of(outcome: Outcome) -> u8
         Outcome::Read { size: _, number: _ } => 0,
         Outcome::Written => 0,
         Outcome::Abort(_) => 0,
-        Outcome::Refused(number) => number,
+        Outcome::Refused(refusal) => refusal.number(),
     }
 }

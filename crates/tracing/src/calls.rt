@@ -53,7 +53,7 @@ fn call_send(device: Device) -> Called {
     let sent = rainsheave::send(device, &mut room);
     Called {
         device,
-        number: rainsheave::number_of_report(sent.report),
+        number: rainsheave::number_of_report(sent),
         kept: is_untouched(&room),
     }
 }
@@ -61,7 +61,7 @@ fn call_send(device: Device) -> Called {
 fn call_status(device: Device) -> Called {
     Called {
         device,
-        number: rainsheave::status(device).number,
+        number: rainsheave::number_of_report(rainsheave::status(device)),
         kept: true,
     }
 }

@@ -7,7 +7,7 @@ mod unsound;
 use crate::event::{Event, Kind, RECORD_LENGTH};
 use device::Device;
 use image::IMAGE_LENGTH;
-use rainsheave::{Change, Reading, Report};
+use rainsheave::{Change, Refusal};
 use std::fmt;
 use std::fmt::{Display, Formatter, Write};
 
@@ -65,13 +65,14 @@ impl Display for Bytes<'_> {
     }
 }
 
-// A query's number and its value.
+// A query's number and its value, which is 0 beside a refusal.
 #[derive(Clone, Copy)]
-struct Answer(Reading);
+struct Answer(Result<i64, Refusal>);
 
 impl Display for Answer {
     fn fmt<W: Write>(&self, f: &mut Formatter<W>) -> fmt::Result {
-        let Reading { number, value } = self.0;
+        let number = rainsheave::number_of_report(self.0);
+        let value = self.0.unwrap_or(0);
         write!(f, "{number}/{value}")
     }
 }
@@ -156,15 +157,15 @@ impl Run {
         let mut room = [UNTOUCHED; PDO_ROOM];
         let room = first_mut(&mut room, usize::from(length));
         let sent = rainsheave::send(self.device, room);
-        let number = rainsheave::number_of_report(sent.report);
-        write!(line, "send {number} {}{}", sent.length, Bytes(room))
+        let number = rainsheave::number_of_report(sent);
+        write!(line, "send {number} {}{}", sent.unwrap_or(0), Bytes(room))
     }
 
     // So many single ticks. The report is that of the last; where there is none, nothing is refused.
     fn ticks(&self, n: u16) -> Change {
         let mut change = Change {
             device: self.device,
-            report: Report::Done,
+            report: Ok(()),
         };
         for _ in 0..n {
             change = rainsheave::tick(change.device);
@@ -178,7 +179,7 @@ impl Run {
         let room = first_mut(&mut room, usize::from(length));
         let report = rainsheave::store(self.device, room);
         let number = rainsheave::number_of_report(report);
-        if number == 0
+        if report.is_ok()
             && let Some(image) = room.get(..IMAGE_LENGTH)
         {
             self.image.copy_from_slice(image);
@@ -301,9 +302,9 @@ impl Run {
     // that each query has a value.
     fn trace_device(&self, line: &mut impl Write) -> fmt::Result {
         let device = self.device;
-        let state = rainsheave::state(device).value;
-        let status = rainsheave::status(device).value;
-        let position = rainsheave::position(device).value;
+        let state = rainsheave::state(device).unwrap_or(0);
+        let status = rainsheave::status(device).unwrap_or(0);
+        let position = rainsheave::position(device).unwrap_or(0);
         let phase = device.dither.phase;
         writeln!(line, " | {state} {status} {position} {phase}")
     }

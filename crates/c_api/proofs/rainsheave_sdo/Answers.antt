@@ -4,34 +4,35 @@ use Rattle.rainsheave.proofs.Settling.{refusal_leads, decision_leads}
 use Rattle.words.proofs.Laws.{held_words}
 use Rattle.words.proofs.Written.{carried_words}
 use Rattle.c_api.proofs.Calls.{holds, held, decided_number}
+use Rattle.c_api.proofs.rainsheave_sdo.Goals.{in-Ok, in_default}
 use Rattle.c_api.proofs.rainsheave_sdo.Goals as goal
 
 pub carry_out-requires : goal.carry_out-requires
 carry_out-requires c =
     record {
       held = held c.hold_device.ensures c.if-not-hold_device.false;
-      decided = (decision_leads c.settle.ensures c.in-Decided.is).0;
+      decided = (decision_leads c.settle-settled.ensures c.in-Ok.is).0;
     }
 
-pub returns-in-Refused : goal.returns-in-Refused
-returns-in-Refused c =
+pub returns : goal.returns
+returns c =
     let tested = c.hold_device.ensures in
     let e = holds tested c.if-not-hold_device.false in
-    let answered = rw c.device_in.ensures at (refusal_leads c.settle.ensures c.in-Refused.is) in
-    record {
-      number = rw (e, answered);
-      words = rw (e, answered) (sym (held_words (record { held = e }) tested.long));
-      bytes = rw e (rw c.device_in.ensures at c.settle.ensures.bytes);
-    }
-
-pub returns-in-Decided : goal.returns-in-Decided
-returns-in-Decided c =
-    let tested = c.hold_device.ensures in
-    let e = holds tested c.if-not-hold_device.false in
-    let leads = decision_leads c.settle.ensures c.in-Decided.is in
-    let answered = rw c.device_in.ensures at leads.1 in
-    record {
-      number = rw (e, answered) (sym (decided_number c.in-Decided.decision));
-      words = rw (e, answered) (c.carry_out.ensures ∙ carried_words (record { held = e }) tested.long _ leads.0);
-      bytes = rw e (rw c.device_in.ensures at c.settle.ensures.bytes);
-    }
+    let bytes = rw c.device_in.ensures at c.settle-settled.ensures.bytes in
+    elim c.match-settled.branch [
+      | in-Ok w ↦
+          let leads = decision_leads c.settle-settled.ensures w.in-Ok.is in
+          let answered = rw c.device_in.ensures at leads.1 in
+          record {
+            number = c.number_of_report.ensures ∙ rw (w.settled-is, e, answered) (sym (decided_number w.in-Ok.decision));
+            words = w.device-is ∙ rw (e, answered) (w.carry_out.ensures ∙ carried_words (record { held = e }) tested.long _ leads.0);
+            bytes = rw e bytes;
+          }
+      | in_default w ↦
+          let answered = rw c.device_in.ensures at (refusal_leads c.settle-settled.ensures w.in_default.is) in
+          record {
+            number = c.number_of_report.ensures ∙ rw (w.settled-is, w.in_default.is, e, answered);
+            words = w.device-is ∙ rw (e, answered) (sym (held_words (record { held = e }) tested.long));
+            bytes = rw e bytes;
+          }
+    ]

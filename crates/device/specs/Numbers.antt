@@ -1,5 +1,7 @@
 -- Document 01, "Numbers handed back", with wish 2 of document 02: 0 is done, an abort reply included; each other number refuses.
 use Rattle.std.specs.Prelude.{ℕ}
+use Rattle.device.specs.declared.refusal.Refusal.{Refusal}
+use Rattle.device.specs.declared.refusal.Refusal.TheVariants.{Unsound, WrongLength, NoRoom, NoReplyDue, NoFault, NoImageRoom, NotFull, BadValue, NotDisabled, ShortPdo}
 
 -- the state isn't sound
 abbrev pub UNSOUND : ℕ
@@ -40,3 +42,16 @@ NOT_DISABLED = 9
 -- a received PDO shorter than its map
 abbrev pub SHORT_PDO : ℕ
 SHORT_PDO = 14
+
+-- the number handed back for a refusal
+abbrev pub number_of_refusal : Refusal → ℕ
+number_of_refusal Unsound = UNSOUND
+number_of_refusal WrongLength = WRONG_LENGTH
+number_of_refusal NoRoom = NO_ROOM
+number_of_refusal NoReplyDue = NO_REPLY_DUE
+number_of_refusal NoFault = NO_FAULT
+number_of_refusal NoImageRoom = NO_IMAGE_ROOM
+number_of_refusal NotFull = NOT_FULL
+number_of_refusal BadValue = BAD_VALUE
+number_of_refusal NotDisabled = NOT_DISABLED
+number_of_refusal ShortPdo = SHORT_PDO
