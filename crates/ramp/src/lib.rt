@@ -27,6 +27,7 @@ pub struct Times {
 }
 
 impl Times {
+    // The time of the side of zero on which z is.
     #[tactic(auto, unfolding(crate::specs::Ramp::side_of))]
     fn side_of(self, z: i64) -> i64
         ensures { result ≡ side_of self z }
@@ -44,6 +45,7 @@ pub struct Ramp {
 }
 
 impl Ramp {
+    // Type 0 has no ramp.
     fn ramped(self) -> bool
         ensures { result ≡ Ramps.ramped self }
     {
@@ -57,6 +59,7 @@ impl Ramp {
         1 < self.kind
     }
 
+    // The time away from zero, on the side of z.
     #[tactic(auto, unfolding(crate::specs::Ramp::away_time))]
     fn away_time(self, z: i64) -> i64
         ensures { result ≡ away_time self z }
@@ -68,6 +71,7 @@ impl Ramp {
         }
     }
 
+    // The time toward zero, on the side of z.
     #[tactic(auto, unfolding(crate::specs::Ramp::back_time))]
     fn back_time(self, z: i64) -> i64
         ensures { result ≡ back_time self z }
@@ -92,6 +96,7 @@ pub struct Way {
 }
 
 impl Way {
+    // Whether the way halts at zero before it goes on to the target.
     #[tactic(auto, unfolding(crate::specs::Ramp::halts))]
     fn halts(self) -> bool
         ensures { result ≡ Ramps.halts self.ramp self.target self.position }
@@ -99,6 +104,7 @@ impl Way {
         opposite(self.target, self.position) && self.ramp.may_halt()
     }
 
+    // Where the ticks stop first.
     #[tactic(auto, unfolding(crate::specs::Ramp::stop))]
     fn stop(self) -> i64
         ensures value { result ≡ Ramps.stop self.ramp self.target self.position }
@@ -107,7 +113,7 @@ impl Way {
         if self.halts() { 0 } else { self.target }
     }
 
-    // The step of a tick at p. The time is picked first, so that there is one division.
+    // The step of a tick at a position p on the way. The time is picked first, so that there is one division.
     #[tactic(auto, unfolding(crate::specs::Ramp::stride))]
     fn stride(self, p: i64) -> u64
         ensures { result ≡ Ramps.stride self.ramp self.target p }
