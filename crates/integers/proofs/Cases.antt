@@ -1,9 +1,9 @@
 -- A test has two outcomes: what is shown from each holds. Laws on a choice by a test, and on two tests that agree.
 use mathlib.Core.Path.{◌≡◌, refl, sym, ◌∙◌}
 use mathlib.Core.Bool.{Bool, true, false, cond, true≢false}
-use Prim.Native.Nat.{ℕ, zero, suc, ◌≤◌, ◌<◌}
+use Prim.Native.Nat.{ℕ, ◌≤◌, ◌<◌}
 use native.Mathlib.Omega.{arith}
-use borrow.Author.Tests.{ltb-true, ltb-false, lt-ltb, le-ltb}
+use borrow.Author.Tests.{ltb-true, ltb-false}
 use lib.Dec.{ltb}
 use lib.IntN.{ℤ}
 use lib.Signed.{lt_z, ◌≤ℤ◌, ◌<ℤ◌}
@@ -36,20 +36,8 @@ apart e = absurd (never e)
     never e = omega arith
 
 -- two tests agree where each outcome of the first is the second's
-pub ltb_same : (a b c d : ℕ) → (a < b → c < d) → (b ≤ a → d ≤ c) → ltb c d ≡ ltb a b
-ltb_same a b c d f g = by_less a b (λ h. lt-ltb c d (f h) ∙ sym (lt-ltb a b h)) (λ h. le-ltb c d (g h) ∙ sym (le-ltb a b h))
-
 pub lt_z_same : (a b c d : ℤ) → (a <ℤ b → c <ℤ d) → (b ≤ℤ a → d ≤ℤ c) → lt_z c d ≡ lt_z a b
 lt_z_same a b c d f g =
     by_cases (lt_z a b)
     (λ e. let k : c <ℤ d = f (omega (arith, ints)) in sym (e ∙ sym (omega (arith, ints))))
     (λ e. let k : d ≤ℤ c = g (omega (arith, ints)) in sym (e ∙ sym (omega (arith, ints))))
-
--- p is none of the numbers below n, as the last arm of a `match` over them has it
-abbrev pub NoneBelow : ℕ → ℕ → Type 0
-NoneBelow p zero = Unit {0}
-NoneBelow p (suc n) = NoneBelow p n × (p ≡ n → ⊥)
-
-pub none_below : (n p : ℕ) → NoneBelow p n → n ≤ p
-none_below zero p h = omega arith
-none_below (suc n) p h = let k = none_below n p h.0 in let l : p ≡ n → ⊥ = h.1 in omega arith

@@ -1,25 +1,25 @@
--- What the machine says of signed numbers, said of the numbers. A signed local holds bits, so that a goal may speak of `to_z w (of_z w z)`, which is z where z fits. These laws read it in what a test or a call told.
-use mathlib.Core.Path.{◌≡◌, refl, sym, ap, subst, ◌∙◌}
-use mathlib.Core.Bool.{Bool, true, false}
+-- What the machine says of signed numbers, said of the numbers. A signed local holds bits, so that a goal may speak of `to_z w (of_z w z)`, which is z where z fits. These laws read it in what a call told.
+use mathlib.Core.Path.{◌≡◌, refl, sym, ap, ◌∙◌}
+use mathlib.Core.Bool.{true, false}
 use mathlib.Core.List.{List}
 use Prim.Native.Nat.{ℕ, zero, suc, ◌/◌, ◌^◌, ◌<◌, ◌≤◌}
 use native.Mathlib.Nat.{div-le_self}
 use native.Mathlib.Omega.{arith}
 use borrow.Author.Called.{Called}
-use borrow.Author.Tests.{eq-eqb, ne_eqb, eqb-true, eqb-false}
+use borrow.Author.Tests.{eq-eqb, ne_eqb, eqb-true}
 use borrow.Fn.Kinds.{ParamKind, Dens, r_s_num}
 use borrow.Fn.Args.{ArgsT, args_v}
 use borrow.Table.Row.{Cx}
 use borrow.Table.Typed.{Mo}
 use contract.Lifetimes.{Lfts}
-use lib.Dec.{T, ltb, eqb}
+use lib.Dec.{T}
 use lib.IntN.{ℤ, pos, negsuc, neg_ℤ, nat_abs}
-use lib.Signed.{mag, lt_z, le_z, quot_z, non_neg, ◌≤ℤ◌, yes_non_neg}
+use lib.Signed.{mag, quot_z, non_neg, ◌≤ℤ◌, yes_non_neg}
 use mir.Syntax.{Width, w64}
 use mir.Val.{Fits, SFits, to_z, of_z, hbits}
-use mir.Facts.{to_z-of_z, sfits_lit, Fits-nat_abs}
+use mir.Facts.{to_z-of_z, Fits-nat_abs}
 use Rattle.integers.specs.Words.{◌=?◌}
-use Rattle.integers.proofs.Cases.{by_cases, clash}
+use Rattle.integers.proofs.Cases.{clash}
 
 -- ---- equality as a test
 
@@ -39,21 +39,7 @@ pub =?-no : (a b : ℤ) → (a ≡ b → ⊥) → (a =? b) ≡ false
 =?-no (negsuc a) (pos b) h = refl
 =?-no (negsuc a) (negsuc b) h = ne_eqb a b (λ e. h (ap negsuc e))
 
--- ---- a test of two numbers, as the `.true` and `.false` of its step have it
-module _ {w : Width} {a b : ℤ} (f : SFits w a) (g : SFits w b) where
-  pub lt_told : {t : Bool} → lt_z (to_z w (of_z w a)) (to_z w (of_z w b)) ≡ t → lt_z a b ≡ t
-  lt_told e = simp (to_z-of_z f, to_z-of_z g) at e
-
-  pub le_told : {t : Bool} → le_z (to_z w (of_z w a)) (to_z w (of_z w b)) ≡ t → le_z a b ≡ t
-  le_told e = simp (to_z-of_z f, to_z-of_z g) at e
-
-  -- and `==` of their bits
-  pub eq_told : of_z w a ≡ of_z w b → (a =? b) ≡ true
-  eq_told e = subst (λ (z : ℤ). (a =? z) ≡ true) (sym (to_z-of_z f) ∙ ap (to_z w) e ∙ to_z-of_z g) (=?-refl a)
-
-  pub ne_told : (of_z w a ≡ of_z w b → ⊥) → (a =? b) ≡ false
-  ne_told h = =?-no a b (λ e. h (ap (of_z w) e))
-
+-- ---- what a call told
 -- the range of a call's result, `c.f.type_inv`
 pub ok_fits : {z : ℤ} → mag z < 2 ^ 63 → SFits w64 z
 ok_fits h = record { sfits = h }
@@ -78,21 +64,9 @@ result_told f e = to_z-of_z (ok_fits f) ∙ e
 pub unsigned : {z : ℤ} → SFits w64 z → pos 0 ≤ℤ z → T (non_neg z) × Fits w64 (nat_abs z)
 unsigned f h = (yes_non_neg h, Fits-nat_abs {w = w64} tt f)
 
--- `==` and `!=` with a literal, as `eq_literal (pos 3) tt fit told`
-pub eq_literal : {a : ℤ} (b : ℤ) → T (ltb (mag b) (2 ^ 63)) → SFits w64 a → of_z w64 a ≡ of_z w64 b → (a =? b) ≡ true
-eq_literal b t f e = eq_told f (sfits_lit t) e
-
-pub ne_literal : {a : ℤ} (b : ℤ) → T (ltb (mag b) (2 ^ 63)) → SFits w64 a → (of_z w64 a ≡ of_z w64 b → ⊥) → (a =? b) ≡ false
-ne_literal b t f h = ne_told f (sfits_lit t) h
-
 -- the result of a call, `c.f`, that ensures which number it is
 pub told :
     {ps : List (ParamKind 0)} {f : (κs : Lfts 0) → Dens κs ps → ℤ} {Γ : Cx} {ar : ArgsT ps Γ.locals} {u : Mo Γ} →
     (c : Called ps (r_s_num w64) (λ κs a z e. z ≡ f κs a) Γ ar u) →
     to_z w64 (of_z w64 c.result) ≡ f c.lifetimes (args_v c.lifetimes ps Γ.locals ar u)
 told c = result_told c.type_inv c.ensures
-
--- `==` as a value
-pub same_told : {w : Width} {a b : ℤ} → SFits w a → SFits w b → eqb (of_z w a) (of_z w b) ≡ (a =? b)
-same_told {w} {a} {b} f g =
-    by_cases (eqb (of_z w a) (of_z w b)) (λ e. e ∙ sym (eq_told f g (eqb-true _ _ e))) (λ e. e ∙ sym (ne_told f g (eqb-false _ _ e)))
