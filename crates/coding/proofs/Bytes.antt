@@ -1,10 +1,8 @@
--- A number and its bytes are each other's, and bytes put to the front of a room stand before its later ones. Division by 256, again and again, takes the bytes off from the lowest up.
+-- A number and its bytes are each other's. Division by 256, again and again, takes the bytes off from the lowest up.
 use mathlib.Core.Path.{◌≡◌}
-use mathlib.Core.List.{List, [], ◌∷◌, ◌++◌}
+use mathlib.Core.List.{[], ◌∷◌}
 use Prim.Native.Nat.{ℕ, ◌+◌, ◌*◌, ◌/◌, ◌<◌}
 use native.Mathlib.Omega.{arith}
-use lib.ListN.{length, drop}
-use lib.Seq.{paste, take_all}
 use Rattle.coding.specs.Bytes.{byte_of, two_bytes, four_bytes, two_of, four_of}
 
 -- the two bytes of a number that has no more make it
@@ -40,9 +38,3 @@ bytes_of_four {a} {b} {c} {d} p q r s =
     let y : byte_of n 2 ≡ c = rw two (omega arith) in
     let z : byte_of n 3 ≡ d = rw three (omega arith) in
     rw (w, x, y, z)
-
--- so many bytes to the front of a room
-pub paste_front : (room bytes : List ℕ) (n : ℕ) → length bytes ≡ n → paste room 0 bytes (length bytes) ≡ bytes ++ drop n room
-paste_front room bytes n e =
-    let far : 0 + length bytes ≡ n = omega arith in
-    rw (far, take_all (length bytes) bytes (omega arith))

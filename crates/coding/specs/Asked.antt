@@ -6,10 +6,6 @@ pub record BelowSpan (limit low : ℕ) : Type 0 where
   pub below : low < limit
   pub four : limit ≤ 4294967296
 
--- the place of one of a number's four bytes
-pub record OfFour (place : ℕ) : Type 0 where
-  pub below : place < 4
-
 -- room for some bytes from a place on
 pub record Room (room : List ℕ) (from : ℕ) (bytes : List ℕ) : Type 0 where
   pub fits : from + length bytes ≤ length room

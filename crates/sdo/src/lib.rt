@@ -63,16 +63,9 @@ pub fn request_of(bytes: &[u8]) -> Request
 fn frame_of(command: u8, index: u16, sub: u8, number: u32) -> [u8; 8]
     ensures { result ≡ frame_of command index sub number }
 {
-    [
-        command,
-        (index % 256) as u8,
-        (index / 256) as u8,
-        sub,
-        coding::byte_of(number, 0),
-        coding::byte_of(number, 1),
-        coding::byte_of(number, 2),
-        coding::byte_of(number, 3),
-    ]
+    let [low, high] = index.to_le_bytes();
+    let [a, b, c, d] = coding::four_bytes(number);
+    [command, low, high, sub, a, b, c, d]
 }
 
 // The eight bytes that ask for an entry.
