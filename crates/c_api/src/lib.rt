@@ -20,8 +20,7 @@ ghost use Rattle.c_api.specs.Exported.{
 ghost use Rattle.c_api.specs.Asked.{Leaves, Stores, Told, Changed, SentIs};
 
 use device::Device;
-use image::Found;
-use rainsheave::number::{DONE, FIELD_CUT, NOT_FOUND, UNSOUND};
+use rainsheave::number::{DONE, UNSOUND};
 use rainsheave::{Change, Refusal};
 use words::place::WORDS;
 
@@ -279,27 +278,20 @@ pub fn rainsheave_load(device: &mut [i64; WORDS], image: &[u8]) -> u8
     )
 }
 
-fn not_found(number: u8) -> Part
-    ensures { result ≡ record { begin = 0; length = 0; number = number } }
-{
-    Part {
-        begin: 0,
-        length: 0,
-        number,
-    }
-}
-
 pub fn rainsheave_find(image: &[u8], tag: u8) -> Part
     ensures { FindIs image.now tag result }
 {
     match image::locate(image, tag) {
-        Found::Part { from, end } => Part {
-            begin: from,
-            length: end - from,
+        Ok(part) => Part {
+            begin: part.start,
+            length: part.end - part.start,
             number: DONE,
         },
-        Found::Cut => not_found(FIELD_CUT),
-        Found::Ended => not_found(NOT_FOUND),
+        Err(miss) => Part {
+            begin: 0,
+            length: 0,
+            number: miss.number(),
+        },
     }
 }
 

@@ -2,11 +2,10 @@
 use mathlib.Core.Path.{◌≡◌, refl, sym, ap, ◌∙◌}
 use mathlib.Core.List.{List, [], ◌∷◌}
 use Prim.Native.Nat.{ℕ, zero, suc, ◌+◌, ◌<◌}
-use native.Mathlib.Numerals.{add-one}
 use native.Mathlib.Omega.{arith}
 use lib.IntN.{ℤ, pos}
-use lib.ListN.{length, take, set, length-set, length-append, get_or-append}
-use lib.Seq.{take-suc-set, take_all, get_or-append-add}
+use lib.ListN.{length, take, length-append, get_or-append}
+use lib.Seq.{take_all, get_or-append-add}
 use Rattle.integers.proofs.Cases.{by_less}
 use Rattle.objects.specs.Places.{SETTINGS}
 use Rattle.block.specs.Block.{at}
@@ -16,13 +15,6 @@ use Rattle.image.specs.Load.{value_in_image, values_in, settings_in}
 pub record Loaded (image : List ℕ) (k : ℕ) (settings : List ℤ) : Type 0 where
   pub long : length settings ≡ SETTINGS
   pub so_far : take k settings ≡ values_in k image
-
--- a turn reads one more
-pub loaded_next : {image : List ℕ} {k : ℕ} {l : List ℤ} → Loaded image k l → k < SETTINGS → Loaded image (k + 1) (set l k (value_in_image image k))
-unfolding values_in
-loaded_next {k} {l} s h =
-    let p : k < length l = omega arith in
-    record { long = rw length-set s.long; so_far = rw (add-one, take-suc-set, s.so_far) }
 
 -- after the last turn all are read
 pub settings_from_loaded : {image : List ℕ} {l : List ℤ} → Loaded image SETTINGS l → l ≡ settings_in image

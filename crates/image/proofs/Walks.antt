@@ -1,5 +1,5 @@
 -- The walk from the start, seen from a place that it has reached: each of the five ends of a turn. A field has a header, so the fuel never runs out.
-use Rattle.std.specs.Prelude.{if◌then◌else◌}
+use Rattle.std.specs.Prelude.{if◌then◌else◌, Ok, Err}
 use mathlib.Core.Path.{◌≡◌, refl, ap, ◌∙◌}
 use mathlib.Core.List.{List}
 use Prim.Native.Nat.{ℕ, zero, suc, ◌+◌, ◌-◌, ◌≤◌, ◌<◌}
@@ -11,7 +11,7 @@ use Rattle.integers.specs.Words.{◌is◌, ◌below◌}
 use Rattle.objects.specs.Places.{SETTINGS}
 use Rattle.coding.specs.Bytes.{byte_at}
 use Rattle.block.specs.Block.{at}
-use Rattle.image.specs.declared.Found.TheVariants.{Part, Cut, Ended}
+use Rattle.image.specs.declared.Miss.TheVariants.{Cut, Ended}
 use Rattle.image.specs.Fields.{HEADER, tag_of, size_at, field_length, start, value_bytes, image_of}
 use Rattle.image.specs.Walk.{end_at, walk_from, walk, part_of}
 use Rattle.image.proofs.Split.{Begins, image_begins, without_last, next_within, tag_in, length_in, value_in}
@@ -28,11 +28,11 @@ unfolding walk
 reached_first image tag = record { within = omega arith; fuel = length image; left = omega arith; same = refl }
 
 module _ {image : List ℕ} {tag k : ℕ} (r : Reached image tag k) where
-  pub walk_ends : length image ≤ k → walk image tag ≡ Ended
+  pub walk_ends : length image ≤ k → walk image tag ≡ Err Ended
   unfolding walk_from
   walk_ends h = r.same ∙ simp (lt-ltb (length image) (k + 1) (omega arith))
 
-  pub header_cut : k < length image → length image < k + HEADER → walk image tag ≡ Cut
+  pub header_cut : k < length image → length image < k + HEADER → walk image tag ≡ Err Cut
   unfolding walk_from
   header_cut h j = r.same ∙ simp (le-ltb (length image) (k + 1) (omega arith), lt-ltb (length image) (k + HEADER) j)
 
@@ -40,15 +40,15 @@ module _ {image : List ℕ} {tag k : ℕ} (r : Reached image tag k) where
   header_whole :
       let end = end_at image k in
       k + HEADER ≤ length image
-      → walk image tag ≡ if length image below end then Cut else if byte_at image k is tag then Part (k + HEADER) end else walk_from r.fuel image tag end
+      → walk image tag ≡ if length image below end then Err Cut else if byte_at image k is tag then Ok (record { start = k + HEADER; end = end }) else walk_from r.fuel image tag end
   unfolding walk_from
   header_whole h = r.same ∙ simp (le-ltb (length image) (k + 1) (omega arith), le-ltb (length image) (k + HEADER) h)
 
-  pub value_cut : k + HEADER ≤ length image → length image < end_at image k → walk image tag ≡ Cut
+  pub value_cut : k + HEADER ≤ length image → length image < end_at image k → walk image tag ≡ Err Cut
   value_cut h j = header_whole h ∙ simp (lt-ltb (length image) (end_at image k) j)
 
   module _ (h : end_at image k ≤ length image) where
-    pub tag_met : byte_at image k ≡ tag → walk image tag ≡ Part (k + HEADER) (end_at image k)
+    pub tag_met : byte_at image k ≡ tag → walk image tag ≡ Ok (record { start = k + HEADER; end = end_at image k })
     tag_met e = header_whole (omega arith) ∙ simp (le-ltb (length image) (end_at image k) h, eq-eqb (byte_at image k) tag e)
 
     pub reached_next : (byte_at image k ≡ tag → ⊥) → Reached image tag (end_at image k)
@@ -76,7 +76,7 @@ reached_place {image} place (suc n) h b =
 
 module _ (settings : List ℤ) (place : ℕ) (h : place < SETTINGS) where
   -- each tag's value is found in the image of any settings
-  pub stored_tag_found : walk (image_of settings) (tag_of place) ≡ Part (start place + HEADER) (start place + HEADER + size_at place)
+  pub stored_tag_found : walk (image_of settings) (tag_of place) ≡ Ok (record { start = start place + HEADER; end = start place + HEADER + size_at place })
   unfolding start
   stored_tag_found =
       let b = image_begins settings place h in

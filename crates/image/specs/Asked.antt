@@ -1,12 +1,10 @@
 -- What the functions of the image ask of what they are handed, and what a walk gives.
-use Rattle.std.specs.Prelude.{List, ◌≡◌, true, ℕ, ◌+◌, ◌<◌, ◌≤◌, ℤ, length}
+use Rattle.std.specs.Prelude.{List, ◌≡◌, true, ℕ, ◌+◌, ◌<◌, ◌≤◌, ℤ, length, Ok, Err}
 use Rattle.objects.specs.Places.{SETTINGS}
 use Rattle.coding.specs.Coding.{Held}
 use Rattle.block.specs.Sound.{sound_settings}
 use Rattle.image.specs.Fields.{IMAGE_LENGTH, size_at, field_length, start}
-use Rattle.image.specs.Walk.{walk}
-use Rattle.image.specs.declared.Found.{Found}
-use Rattle.image.specs.declared.Found.TheVariants.{Part, Cut, Ended}
+use Rattle.image.specs.Walk.{Found, walk}
 
 -- sound settings, and room for their image
 pub record Storing (settings : List ℤ) (bytes : List ℕ) : Type 0 where
@@ -30,9 +28,8 @@ pub record Near (k : ℕ) : Type 0 where
 
 -- a part that was found lies within the image
 abbrev pub Lies : List ℕ → Found → Type 0
-Lies image (Part from end) = (from ≤ end) × (end ≤ length image)
-Lies image Cut = Unit {0}
-Lies image Ended = Unit {0}
+Lies image (Ok part) = (part.start ≤ part.end) × (part.end ≤ length image)
+Lies image (Err miss) = Unit {0}
 
 -- what the walk meets
 pub record Walked (image : List ℕ) (tag : ℕ) (r : Found) : Type 0 where

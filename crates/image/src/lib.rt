@@ -5,19 +5,35 @@ ghost use Rattle.std.proofs.Math.Seq.{paste};
 ghost use Rattle.block.specs.Asked.{ASetting};
 ghost use Rattle.image.specs.Fields.{field_length, long_field, field_of, stored_in};
 ghost use Rattle.image.specs.Load.{head_at, is_full, four_at, value_in_image, settings_in};
-ghost use Rattle.image.specs.Walk.{walk, part_of, begin_of, code_of};
+ghost use Rattle.image.specs.Walk.{walk, part_of, begin_of, miss_number, code_of};
 ghost use Rattle.image.specs.Asked.{Storing, Near, Putting, Starts, Walked};
 
 use objects::SETTINGS;
+use std::ops::Range;
 
 pub const IMAGE_LENGTH: usize = 97;
 
-// What a walk over the fields meets: the field so tagged, whose value is from..end; a field cut short; the end.
+// Why a walk over the fields meets none so tagged: one before it is cut short, or they have ended.
 #[derive(Clone, Copy)]
-pub enum Found {
-    Part { from: usize, end: usize },
+pub enum Miss {
     Cut,
     Ended,
+}
+
+// The numbers of a refused search.
+pub const FIELD_CUT: u8 = 7;
+
+pub const NOT_FOUND: u8 = 10;
+
+impl Miss {
+    pub fn number(self) -> u8
+        ensures { result ≡ miss_number self }
+    {
+        match self {
+            Miss::Cut => FIELD_CUT,
+            Miss::Ended => NOT_FOUND,
+        }
+    }
 }
 
 // ---- storing
@@ -31,15 +47,9 @@ fn field(place: usize, size: u8, number: u32) -> [u8; 7]
     requires { ASetting place }
     ensures { result ≡ long_field place size number }
 {
-    [
-        (place + 1) as u8,
-        size,
-        0,
-        coding::byte_of(number, 0),
-        coding::byte_of(number, 1),
-        coding::byte_of(number, 2),
-        coding::byte_of(number, 3),
-    ]
+    let tag = (place + 1) as u8;
+    let [a, b, c, d] = coding::four_bytes(number);
+    [tag, size, 0, a, b, c, d]
 }
 
 // The field of a setting goes to the room from where it starts.
@@ -70,13 +80,10 @@ pub fn store(settings: [i64; SETTINGS], room: &mut [u8])
     requires { Storing settings room.old }
     ensures { room.new ≡ stored_in settings room.old }
 {
-    let mut place = 0;
     let mut from = 0;
-    while place < SETTINGS {
-        let value = settings[place];
-        put_field(room, from, place, value);
+    for (place, value) in settings.iter().enumerate() {
+        put_field(room, from, place, *value);
         from += field_length(place);
-        place += 1;
     }
 }
 
@@ -104,14 +111,12 @@ pub fn is_full(image: &[u8]) -> bool
     if image.len() != IMAGE_LENGTH {
         return false;
     }
-    let mut place = 0;
     let mut from = 0;
-    while place < SETTINGS {
+    for place in 0..SETTINGS {
         if !head_at(image, from, place) {
             return false;
         }
         from += field_length(place);
-        place += 1;
     }
     true
 }
@@ -145,40 +150,37 @@ pub fn settings_in(image: &[u8]) -> [i64; SETTINGS]
     ensures { result ≡ settings_in image.now }
 {
     let mut settings = [0i64; SETTINGS];
-    let mut place = 0;
     let mut from = 0;
-    while place < SETTINGS {
-        let value = value_in(image, from, place);
-        settings[place] = value;
+    for (place, setting) in settings.iter_mut().enumerate() {
+        *setting = value_in(image, from, place);
         from += field_length(place);
-        place += 1;
     }
     settings
 }
 
 // ---- searching
 
-// The walk over the fields of any slice, to the first one so tagged.
-pub fn locate(image: &[u8], tag: u8) -> Found
+// The walk over the fields of any slice: where the value of the first one so tagged lies.
+pub fn locate(image: &[u8], tag: u8) -> Result<Range<usize>, Miss>
     ensures { Walked image.now tag result }
 {
     let mut k = 0;
     while k < image.len() {
         if image.len() - k < HEADER {
-            return Found::Cut;
+            return Err(Miss::Cut);
         }
         let from = k + HEADER;
         let length = coding::two_of(image[k + 1], image[k + 2]) as usize;
         if image.len() - from < length {
-            return Found::Cut;
+            return Err(Miss::Cut);
         }
         let end = from + length;
         if image[k] == tag {
-            return Found::Part { from, end };
+            return Ok(from..end);
         }
         k = end;
     }
-    Found::Ended
+    Err(Miss::Ended)
 }
 
 // The value bytes of the first field so tagged, as a part of the caller's own slice; empty where there is none.
@@ -187,24 +189,17 @@ pub fn find(image: &[u8], tag: u8) -> &[u8]
     ensures begins { (result.ref_ptr.0 ≡ image.entry.ref_ptr.0) × (result.ref_ptr.1 ≡ image.entry.ref_ptr.1 + begin_of (walk image.now tag)) }
 {
     match locate(image, tag) {
-        Found::Part { from, end } => &image[from..end],
-        Found::Cut => &image[..0],
-        Found::Ended => &image[..0],
+        Ok(part) => &image[part.start..part.end],
+        Err(_) => &image[..0],
     }
 }
-
-// The numbers of a refused search.
-pub const FIELD_CUT: u8 = 7;
-
-pub const NOT_FOUND: u8 = 10;
 
 // The number of a search: 0 where the tag is found.
 pub fn find_code(image: &[u8], tag: u8) -> u8
     ensures { result ≡ code_of (walk image.now tag) }
 {
     match locate(image, tag) {
-        Found::Part { from: _, end: _ } => 0,
-        Found::Cut => FIELD_CUT,
-        Found::Ended => NOT_FOUND,
+        Ok(_) => 0,
+        Err(miss) => miss.number(),
     }
 }

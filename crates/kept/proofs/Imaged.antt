@@ -28,8 +28,7 @@ use Rattle.block.proofs.Sound.{block_parts}
 use Rattle.image.specs.Fields as Fields
 use Rattle.image.specs.Fields.{size_at, start, field_of, image_of}
 use Rattle.image.specs.Load.{length_at, head_at, is_full, value_in_image, settings_in}
-use Rattle.image.specs.Walk.{end_at, walk_from, walk, part_of, begin_of, code_of}
-use Rattle.image.specs.declared.Found.{Found}
+use Rattle.image.specs.Walk.{Found, end_at, walk_from, walk, part_of, begin_of, code_of}
 use Rattle.image.proofs.Loaded.{values_length, value_at_lem}
 use Rattle.device.specs.Device.{block_of, with_block_of}
 use Rattle.device.specs.Sound.{Sound}

@@ -1,5 +1,6 @@
 -- The library keeps the promises. Of each call the conditions are gone through in their order: where one holds, the answer is the refusal by
 -- its number; where none does, the device is sound, and what it answers is what the rules say of what is told.
+use Rattle.std.specs.Prelude.{Ok, Err}
 use mathlib.Core.Bool.{Bool, true}
 use mathlib.Core.List.{List}
 use mathlib.Core.Logic.{◌≢◌}
@@ -12,9 +13,8 @@ use lib.ListN.{length}
 use Rattle.integers.specs.Words.{◌is◌, ◌below◌}
 use Rattle.integers.proofs.Cases.{by_cases}
 use Rattle.image.specs.Fields.{stored_in}
-use Rattle.image.specs.Walk.{walk, part_of, begin_of, code_of}
-use Rattle.image.specs.declared.Found.{Found}
-use Rattle.image.specs.declared.Found.TheVariants.{Part, Cut, Ended}
+use Rattle.image.specs.Walk.{Found, walk, part_of, begin_of, code_of}
+use Rattle.image.specs.declared.Miss.TheVariants.{Cut, Ended}
 use Rattle.mapping.specs.Maps.{map_length}
 use Rattle.device.specs.Sound.{sound_device, Sound}
 use Rattle.device.specs.declared.Device.{Device}
@@ -195,9 +195,9 @@ search_kept : (bytes : List ℕ) (tag : ℕ) (d : Device) → Kept (search bytes
 search_kept bytes tag d = met (walk bytes tag) (search_told bytes tag) refl
   where
     met : (w : Found) → found (code_of w) (begin_of w) (part_of bytes w) ≡ Image.search bytes tag → walk bytes tag ≡ w → Kept (search bytes tag) d
-    met (Part from end) e f = doing (rw (← e)) (rw f) refl (rw (f, ← e))
-    met Cut e f = refusing 7 (λ z. omega (arith, z)) (rw (← e)) (rw f)
-    met Ended e f = refusing 10 (λ z. omega (arith, z)) (rw (← e)) (rw f)
+    met (Ok part) e f = doing (rw (← e)) (rw f) refl (rw (f, ← e))
+    met (Err Cut) e f = refusing 7 (λ z. omega (arith, z)) (rw (← e)) (rw f)
+    met (Err Ended) e f = refusing 10 (λ z. omega (arith, z)) (rw (← e)) (rw f)
 
 -- ---- every call
 

@@ -1,6 +1,6 @@
 -- C answers of words what the library answers of the device that they hold, and so keeps the library's promises: the words that a refused call
 -- leaves are those that came, and those that a call leaves which is done hold the library's device again. Words that hold none are unsound.
-use Rattle.std.specs.Prelude.{if◌then◌else◌, Err}
+use Rattle.std.specs.Prelude.{if◌then◌else◌, Ok, Err}
 use mathlib.Core.Bool.{Bool, true, false, not, cond, ◌||◌}
 use mathlib.Core.List.{List, [], ◌∷◌}
 use mathlib.Core.Path.{◌≡◌, refl, sym, ap, ◌∙◌}
@@ -14,9 +14,7 @@ use Rattle.integers.specs.Words.{◌below◌}
 use Rattle.integers.proofs.Cases.{by_cases, apart}
 use Rattle.integers.proofs.Each.{and_split}
 use Rattle.block.proofs.Sound.{block_parts}
-use Rattle.image.specs.Walk.{walk, part_of, begin_of}
-use Rattle.image.specs.declared.Found.{Found}
-use Rattle.image.specs.declared.Found.TheVariants.{Part, Cut, Ended}
+use Rattle.image.specs.Walk.{Found, walk, part_of, begin_of}
 use Rattle.device.specs.Device.{fresh_device, with_state}
 use Rattle.device.specs.Sound.{sound_device, Sound}
 use Rattle.device.specs.declared.Device.{Device}
@@ -156,9 +154,8 @@ take_again (suc n) [] = refl
 take_again (suc n) (x ∷ l) = ap (λ (m : List ℕ). x ∷ m) (take_again n l)
 
 part_taken : (image : List ℕ) (w : Found) → take (length (part_of image w)) (drop (begin_of w) image) ≡ part_of image w
-part_taken image (Part from end) = take_again (end - from) (drop from image)
-part_taken image Cut = refl
-part_taken image Ended = refl
+part_taken image (Ok part) = take_again (part.end - part.start) (drop part.start image)
+part_taken image (Err miss) = refl
 
 -- what a contract tells of the device that 56 words hold, and of words that hold none, is so of the device of words
 module _ (words : List ℤ) (long : length words ≡ WORDS) where

@@ -1,5 +1,5 @@
 -- The header of each place has been shown, one more in each turn. Where the loop stops early, the header of that place fails.
-use Rattle.std.proofs.Common.{◌≡◌, sym, ◌∙◌, arith}
+use Rattle.std.proofs.Common.{◌≡◌, sym, ◌∙◌, arith, refl}
 use Rattle.integers.proofs.Each.{each_none, each_more}
 use Rattle.objects.specs.Places.{SETTINGS}
 use Rattle.image.specs.Asked.{Starts}
@@ -13,7 +13,7 @@ returns-then-image-ne-IMAGE_LENGTH c = sym (not_full_by_length _ c.if-image-ne-I
 
 pub loop-place-init : goal.loop-place-init
 unfolding start
-loop-place-init c = record { passed = omega arith; stands = omega arith; shown = each_none _ }
+loop-place-init c = record { stands = refl; shown = each_none _ }
 
 pub returns-then-not-head_at : goal.returns-then-not-head_at
 returns-then-not-head_at c = sym (not_full_by_header _ c.loop-place.place (omega arith) (sym c.head_at.ensures ∙ c.if-not-head_at.true))
@@ -23,7 +23,6 @@ loop-place-preserved c =
     let l = c.loop-place in
     let s : Starts l.from l.place = record { below = omega arith; starts = l.invariant.stands } in
     record {
-      passed = omega arith;
       stands = omega (arith, next_starts s);
       shown = each_more _ _ l.invariant.shown (sym c.head_at.ensures ∙ c.if-not-head_at.false);
     }

@@ -1,17 +1,12 @@
 -- The loop has shown the header of each place that it passed, and stands where the next field starts.
-use Rattle.std.proofs.Common.{◌≡◌, true, ◌-◌, ◌≤◌}
+use Rattle.std.proofs.Common.{◌≡◌, true}
 use Rattle.integers.specs.Words.{each}
-use Rattle.objects.specs.Places.{SETTINGS}
 use Rattle.image.specs.Fields.{start}
 use Rattle.image.specs.Load.{head_at}
 use Rattle.image.proofs.is_full.Given as goal
 
 abbrev pub invariant-loop-place : goal.invariant-loop-place
 invariant-loop-place l = record {
-  passed : l.place ≤ SETTINGS;
   stands : l.from ≡ start l.place;
   shown : each l.place (head_at l.image) ≡ true;
 }
-
-abbrev pub decreases-loop-place : goal.decreases-loop-place
-decreases-loop-place l = SETTINGS - l.place

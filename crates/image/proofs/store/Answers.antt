@@ -28,7 +28,6 @@ loop-place-preserved c =
     let f : FitsSigned w64 (at c.args.settings l.place) = search rules in
     let s : Starts l.from l.place = record { below = omega arith; starts = l.invariant.stands } in
     record {
-      passed = omega arith;
       stands = omega (arith, next_starts s);
       long = search rules;
       put = rw (c.put_field.ensures, to_z-of_z f, l.invariant.stands, l.invariant.put) (stored_next l.place c.args.settings c.args.room.now);
