@@ -55,17 +55,13 @@ pub fn receive(device: Device, pdo: &[u8]) -> Device
     requires { Sound device }
     ensures { result ≡ received (counted device.maps.receive) pdo.now device }
 {
-    let maps = device.maps;
-    let map = maps.receive;
+    let map = device.maps.receive;
     let entries = map.entries;
     let mut after = device;
     let mut at = 0;
-    let mut k = 0;
-    while k < map.count as usize {
-        let entry = entries[k];
-        after = act(after, entry, pdo, at);
-        at += mapping::bytes_of(entry) as usize;
-        k += 1;
+    for entry in &entries[..map.count as usize] {
+        after = act(after, *entry, pdo, at);
+        at += mapping::bytes_of(*entry) as usize;
     }
     after
 }
@@ -84,28 +80,13 @@ fn number_of(device: Device, entry: u32) -> u32
     }
 }
 
-// Its four bytes.
-#[tactic(auto, unfolding(coding::specs::Bytes::four_bytes))]
-fn value_bytes(device: Device, entry: u32) -> [u8; 4]
-    requires { Telling device entry }
-    ensures { result ≡ four_bytes (number_read (read_decision device (index_of entry) (sub_of entry))) }
-{
-    let number = number_of(device, entry);
-    [
-        coding::byte_of(number, 0),
-        coding::byte_of(number, 1),
-        coding::byte_of(number, 2),
-        coding::byte_of(number, 3),
-    ]
-}
-
 // The bytes of an entry, as many as its length, go to the room from a place on.
 #[tactic(auto, unfolding(crate::specs::Send::sent_by))]
 fn put_value(device: Device, entry: u32, room: &mut [u8], at: usize)
     requires { Putting device entry room.old at }
     ensures { room.new ≡ paste room.old at (sent_by device entry) (bytes_of entry) }
 {
-    let bytes = value_bytes(device, entry);
+    let bytes = coding::four_bytes(number_of(device, entry));
     let n = mapping::bytes_of(entry) as usize;
     coding::put(room, at, &bytes[..n]);
 }
@@ -116,15 +97,11 @@ pub fn send(device: Device, room: &mut [u8])
     requires { Sending device room.old }
     ensures { room.new ≡ sent_in device (counted device.maps.transmit) room.old }
 {
-    let maps = device.maps;
-    let map = maps.transmit;
+    let map = device.maps.transmit;
     let entries = map.entries;
     let mut at = 0;
-    let mut k = 0;
-    while k < map.count as usize {
-        let entry = entries[k];
-        put_value(device, entry, room, at);
-        at += mapping::bytes_of(entry) as usize;
-        k += 1;
+    for entry in &entries[..map.count as usize] {
+        put_value(device, *entry, room, at);
+        at += mapping::bytes_of(*entry) as usize;
     }
 }
