@@ -1,16 +1,25 @@
 -- Words that are numbers from zero up, and that words which hold a device hold its numbers.
+use mathlib.Core.Bool.{true}
 use mathlib.Core.List.{List}
 use mathlib.Core.Path.{◌≡◌}
-use Prim.Native.Nat.{ℕ, ◌+◌, ◌≤◌, ◌<◌}
+use Prim.Native.Nat.{ℕ, ◌+◌, ◌^◌, ◌≤◌, ◌<◌}
 use native.Mathlib.Omega.{arith}
 use lib.Dec.{T, lit<}
-use lib.IntN.{ℤ, pos}
+use lib.IntN.{ℤ, pos, nat_abs}
 use lib.Signed.{non_neg, pos-nat_abs}
+use mir.Syntax.{Width, w64}
+use mir.Val.{Fits, SFits, bits, to_z, of_z}
+use mir.Facts.{to_z-of_z}
 use Rattle.integers.proofs.Each.{and_split}
 use Rattle.objects.proofs.Rules.{lies_within}
 use Rattle.dictionary.proofs.Laws.{number_within}
-use Rattle.words.specs.Words.{SELECTED, STATE, CONTROL_WORD, ERROR_CODE, PHASE, RECEIVE, TRANSMIT, WORDS, ONE_BYTE, TWO_BYTES, FOUR_BYTES, word, number, hold_map, hold_device}
-use Rattle.words.specs.Asked.{Number, HeldMap, Held}
+use Rattle.words.specs.Words.{SELECTED, STATE, CONTROL_WORD, ERROR_CODE, PHASE, RECEIVE, TRANSMIT, WORDS, ONE_BYTE, TWO_BYTES, FOUR_BYTES, word, number, is_number, hold_map, hold_device}
+use Rattle.words.specs.Asked.{HeldMap, Held}
+
+-- the place of a word that is a number up to the most
+pub record Number (words : List ℤ) (k : ℕ) (most : ℤ) : Type 0 where
+  pub below : k < WORDS
+  pub up_to : is_number words k most ≡ true
 
 module _ {words : List ℤ} {k most : ℕ} (n : Number words k (pos most)) where
   pub as_number : T (non_neg (word words k)) × (number words k ≤ most)
@@ -19,6 +28,10 @@ module _ {words : List ℤ} {k most : ℕ} (n : Number words k (pos most)) where
   -- it is the word of its number
   pub number_word : pos (number words k) ≡ word words k
   number_word = pos-nat_abs (word words k) as_number.0
+
+  -- and fits a type that holds all up to the most
+  pub number_fits : {w : Width} → SFits w64 (word words k) → most < 2 ^ bits w → T (non_neg (to_z w64 (of_z w64 (word words k)))) × Fits w (nat_abs (to_z w64 (of_z w64 (word words k))))
+  number_fits f h = simp (to_z-of_z f) (as_number.0, record { fits = omega (arith, as_number.1) })
 
 -- the numbers of a map
 pub record MapNumbers (words : List ℤ) (from : ℕ) : Type 0 where

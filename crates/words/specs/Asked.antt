@@ -4,16 +4,11 @@ use Rattle.objects.specs.Places.{SETTINGS, SELECTION}
 use Rattle.dictionary.specs.Asked.{Writing, Decided}
 use Rattle.dictionary.specs.declared.Decision.{Decision}
 use Rattle.words.specs.Stored.{start_of, word_of}
-use Rattle.words.specs.Words.{OTHER_BLOCK, WORDS, is_number, hold_map, hold_device}
+use Rattle.words.specs.Words.{OTHER_BLOCK, WORDS, hold_map, hold_device}
 
 -- the place of a word
 pub record Place (k : ℕ) : Type 0 where
   pub below : k < WORDS
-
--- the place of a word that is a number up to the most
-pub record Number (words : List ℤ) (k : ℕ) (most : ℤ) : Type 0 where
-  pub below : k < WORDS
-  pub up_to : is_number words k most ≡ true
 
 -- a place from which there are words for all settings
 pub record Settings (from : ℕ) : Type 0 where

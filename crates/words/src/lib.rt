@@ -1,12 +1,11 @@
 #![tactic(auto)]
 // A device as words of 64 bits: whether words hold a device, the device that they hold, and what each change of a device stores. Only
 // those words are stored that the change can alter.
-ghost use Rattle.std.specs.Prelude.{◌≡◌, ◌&&◌, pos};
+ghost use Rattle.std.specs.Prelude.{◌≡◌};
 ghost use Rattle.std.proofs.lemmas.List.Edits.{sets};
 ghost use Rattle.objects.specs.Places as Places;
 ghost use Rattle.device.specs.Device.{fresh_device};
-ghost use Rattle.words.specs.Words.{is_number, number, run, hold_map, block_in, map_in, dither_in, device_in, words_of};
-ghost use Rattle.words.specs.Words as Words;
+ghost use Rattle.words.specs.Words.{is_number, run, hold_map, block_in, map_in, dither_in, device_in, words_of};
 ghost use Rattle.words.specs.Stored.{
   moved_in,
   block_put,
@@ -17,7 +16,7 @@ ghost use Rattle.words.specs.Stored.{
   written_in,
   carried_out_in,
 };
-ghost use Rattle.words.specs.Asked.{Place, Number, Settings, Blocks, Mapped, HeldMap, Held, OneWord, Started, Standing, Tested, Written, Carried};
+ghost use Rattle.words.specs.Asked.{Place, Settings, Blocks, Mapped, HeldMap, Held, OneWord, Started, Standing, Tested, Written, Carried};
 
 use block::Block;
 use device::Device;
@@ -53,55 +52,7 @@ fn is_number(words: &[i64; WORDS], k: usize, most: i64) -> bool
     objects::lies_in(0, most, words[k])
 }
 
-// The word at a place as a number of one, two or four bytes.
-fn byte_at(words: &[i64; WORDS], k: usize) -> u8
-    requires { Number words.now k (pos Words.ONE_BYTE) }
-    ensures { result ≡ number words.now k }
-{
-    words[k] as u8
-}
-
-fn two_at(words: &[i64; WORDS], k: usize) -> u16
-    requires { Number words.now k (pos Words.TWO_BYTES) }
-    ensures { result ≡ number words.now k }
-{
-    words[k] as u16
-}
-
-fn four_at(words: &[i64; WORDS], k: usize) -> u32
-    requires { Number words.now k (pos Words.FOUR_BYTES) }
-    ensures { result ≡ number words.now k }
-{
-    words[k] as u32
-}
-
-// A number as a word.
-fn of_byte(number: u8) -> i64
-    ensures { result ≡ pos number }
-{
-    number as i64
-}
-
-fn of_two(number: u16) -> i64
-    ensures { result ≡ pos number }
-{
-    number as i64
-}
-
-fn of_four(number: u32) -> i64
-    ensures { result ≡ pos number }
-{
-    number as i64
-}
-
 // ---- reading
-
-// Both hold; both have been worked out.
-fn both(a: bool, b: bool) -> bool
-    ensures { result ≡ (a && b) }
-{
-    a && b
-}
 
 // A count of one byte and four entries of four bytes.
 #[tactic(auto, unfolding(crate::specs::Words::hold_map))]
@@ -109,15 +60,9 @@ fn hold_map(words: &[i64; WORDS], from: usize) -> bool
     requires { Mapped from }
     ensures { result ≡ hold_map words.now from }
 {
-    let first = both(
-        is_number(words, from + 1, FOUR_BYTES),
-        is_number(words, from + 2, FOUR_BYTES),
-    );
-    let last = both(
-        is_number(words, from + 3, FOUR_BYTES),
-        is_number(words, from + 4, FOUR_BYTES),
-    );
-    both(is_number(words, from, ONE_BYTE), both(first, last))
+    let first = is_number(words, from + 1, FOUR_BYTES) & is_number(words, from + 2, FOUR_BYTES);
+    let last = is_number(words, from + 3, FOUR_BYTES) & is_number(words, from + 4, FOUR_BYTES);
+    is_number(words, from, ONE_BYTE) & (first & last)
 }
 
 // Each word that stands for a number of one, two or four bytes is one. The words come by value, since an array's length is known of a
@@ -126,17 +71,12 @@ fn hold_map(words: &[i64; WORDS], from: usize) -> bool
 pub fn hold_device(words: [i64; WORDS]) -> bool
     ensures { Tested words result }
 {
-    let bytes = both(
-        is_number(&words, SELECTED, ONE_BYTE),
-        is_number(&words, STATE, ONE_BYTE),
-    );
-    let twos = both(
-        is_number(&words, CONTROL_WORD, TWO_BYTES),
-        is_number(&words, ERROR_CODE, TWO_BYTES),
-    );
+    let bytes = is_number(&words, SELECTED, ONE_BYTE) & is_number(&words, STATE, ONE_BYTE);
+    let twos = is_number(&words, CONTROL_WORD, TWO_BYTES)
+        & is_number(&words, ERROR_CODE, TWO_BYTES);
     let phase = is_number(&words, PHASE, FOUR_BYTES);
-    let maps = both(hold_map(&words, RECEIVE), hold_map(&words, TRANSMIT));
-    both(both(bytes, twos), both(phase, maps))
+    let maps = hold_map(&words, RECEIVE) & hold_map(&words, TRANSMIT);
+    (bytes & twos) & (phase & maps)
 }
 
 #[tactic(auto, unfolding(crate::specs::Words::run))]
@@ -145,10 +85,8 @@ fn settings_at(words: &[i64; WORDS], from: usize) -> [i64; SETTINGS]
     ensures { result ≡ run words.now from Places.SETTINGS }
 {
     let mut settings = [0i64; SETTINGS];
-    let mut k = 0;
-    while k < SETTINGS {
+    for k in 0..SETTINGS {
         settings[k] = words[from + k];
-        k += 1;
     }
     settings
 }
@@ -171,12 +109,12 @@ fn map_at(words: &[i64; WORDS], from: usize) -> Map
     ensures { result ≡ map_in words.now from }
 {
     Map {
-        count: byte_at(words, from),
+        count: words[from] as u8,
         entries: [
-            four_at(words, from + 1),
-            four_at(words, from + 2),
-            four_at(words, from + 3),
-            four_at(words, from + 4),
+            words[from + 1] as u32,
+            words[from + 2] as u32,
+            words[from + 3] as u32,
+            words[from + 4] as u32,
         ],
     }
 }
@@ -190,7 +128,7 @@ fn dither_at(words: &[i64; WORDS]) -> Dither
         kind: words[DITHER],
         amplitude: words[DITHER + 1],
         frequency: words[DITHER + 2],
-        phase: four_at(words, PHASE),
+        phase: words[PHASE] as u32,
     }
 }
 
@@ -203,10 +141,10 @@ pub fn device_in(words: &[i64; WORDS]) -> Device
     Device {
         block: block_at(words, SELECTED_BLOCK),
         other: block_at(words, OTHER_BLOCK),
-        selected: byte_at(words, SELECTED),
-        state: byte_at(words, STATE),
-        control: two_at(words, CONTROL_WORD),
-        error: two_at(words, ERROR_CODE),
+        selected: words[SELECTED] as u8,
+        state: words[STATE] as u8,
+        control: words[CONTROL_WORD] as u16,
+        error: words[ERROR_CODE] as u16,
         maps: Maps {
             receive: map_at(words, RECEIVE),
             transmit: map_at(words, TRANSMIT),
@@ -226,10 +164,10 @@ pub fn put_moved(words: &mut [i64; WORDS], device: Device)
     let position = block.position;
     let dither = device.dither;
     words[SELECTED_BLOCK + 1] = position;
-    words[STATE] = of_byte(device.state);
-    words[CONTROL_WORD] = of_two(device.control);
-    words[ERROR_CODE] = of_two(device.error);
-    words[PHASE] = of_four(dither.phase);
+    words[STATE] = i64::from(device.state);
+    words[CONTROL_WORD] = i64::from(device.control);
+    words[ERROR_CODE] = i64::from(device.error);
+    words[PHASE] = i64::from(dither.phase);
 }
 
 // Where the block of a number begins.
@@ -238,7 +176,7 @@ fn start_of(words: &[i64; WORDS], which: u8) -> usize
     ensures { Started which words.now result }
 {
     let selected = words[SELECTED];
-    if selected == of_byte(which) {
+    if selected == i64::from(which) {
         SELECTED_BLOCK
     } else {
         OTHER_BLOCK
@@ -249,10 +187,8 @@ fn put_settings(words: &mut [i64; WORDS], from: usize, settings: [i64; SETTINGS]
     requires { Settings from }
     ensures { words.new ≡ sets words.old from settings }
 {
-    let mut k = 0;
-    while k < SETTINGS {
+    for k in 0..SETTINGS {
         words[from + k] = settings[k];
-        k += 1;
     }
 }
 
@@ -308,12 +244,12 @@ fn put_selected(words: &mut [i64; WORDS], which: u8)
     ensures { words.new ≡ selected_in which words.old }
 {
     let selected = words[SELECTED];
-    if selected != of_byte(which) {
+    if selected != i64::from(which) {
         let block = block_at(&*words, SELECTED_BLOCK);
         let other = block_at(&*words, OTHER_BLOCK);
         put_block(words, SELECTED_BLOCK, other);
         put_block(words, OTHER_BLOCK, block);
-        words[SELECTED] = of_byte(which);
+        words[SELECTED] = i64::from(which);
     }
 }
 

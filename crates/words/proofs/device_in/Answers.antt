@@ -1,18 +1,19 @@
--- Each number of a held device is one, and both its maps are held.
-use Rattle.words.proofs.Numbers.{device_numbers}
+-- Each number of a held device fits its type, and both its maps are held.
+use Rattle.std.proofs.Common.{arith, rules}
+use Rattle.words.proofs.Numbers.{number_fits, device_numbers}
 use Rattle.words.proofs.device_in.Goals as goal
 
-pub byte_at-requires : goal.byte_at-requires
-byte_at-requires c = (device_numbers c.requires).selected
+pub overflow_cast-result : goal.overflow_cast-result
+overflow_cast-result c = number_fits (device_numbers c.requires).selected (search rules) (omega arith)
 
-pub byte_at-requires-2 : goal.byte_at-requires-2
-byte_at-requires-2 c = (device_numbers c.requires).state
+pub overflow_cast-result-2 : goal.overflow_cast-result-2
+overflow_cast-result-2 c = number_fits (device_numbers c.requires).state (search rules) (omega arith)
 
-pub two_at-requires : goal.two_at-requires
-two_at-requires c = (device_numbers c.requires).control
+pub overflow_cast-result-3 : goal.overflow_cast-result-3
+overflow_cast-result-3 c = number_fits (device_numbers c.requires).control (search rules) (omega arith)
 
-pub two_at-requires-2 : goal.two_at-requires-2
-two_at-requires-2 c = (device_numbers c.requires).error
+pub overflow_cast-result-4 : goal.overflow_cast-result-4
+overflow_cast-result-4 c = number_fits (device_numbers c.requires).error (search rules) (omega arith)
 
 pub map_at-requires : goal.map_at-requires
 map_at-requires c = (device_numbers c.requires).receive

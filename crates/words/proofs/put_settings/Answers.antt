@@ -11,4 +11,4 @@ loop-k-preserved c =
     let a = c.args in
     let f : SFits w64 (get_or a.settings l.k (pos 0)) = search rules in
     let long : length a.settings ≡ SETTINGS = search rules in
-    (omega arith, rw (to_z-of_z f, l.invariant.1) (stored_more a.words.now a.from a.settings l.k (omega arith)))
+    rw (to_z-of_z f, l.invariant) (stored_more a.words.now a.from a.settings l.k (omega arith))
