@@ -1,5 +1,5 @@
 -- From what a call found to what it is fixed to leave: words that hold no device are refused; of others the library's answer is stored.
-use Rattle.std.proofs.Common.{Ok, Err, is_ok}
+use Rattle.std.proofs.Common.{Result, Ok, Err, is_ok}
 use mathlib.Core.Bool.{Bool, true, false}
 use mathlib.Core.List.{List}
 use mathlib.Core.Path.{◌≡◌, refl, sym, ap, ◌∙◌}
@@ -10,7 +10,8 @@ use Rattle.device.specs.Device.{block_of, with_block_of}
 use Rattle.device.specs.Kept.{SameSettings}
 use Rattle.device.specs.declared.Device.{Device}
 use Rattle.dictionary.specs.declared.Decision.{Decision}
-use Rattle.dictionary.specs.declared.Decision.TheVariants.{Read, Write, Abort}
+use Rattle.dictionary.specs.declared.Decision.TheVariants.{Read, Write}
+use Rattle.dictionary.specs.declared.Abort.{Abort}
 use Rattle.sdo.specs.Frames.{number_handed_back}
 use Rattle.sdo.specs.Serve.{outcome_of}
 use Rattle.rainsheave.specs.Calls.{Report}
@@ -69,7 +70,7 @@ left_same (Err refusal) f left = left
 -- ---- a request
 
 -- what was decided is no refusal
-pub decided_number : (x : Decision) → number_handed_back (outcome_of x) ≡ 0
-decided_number (Read size number) = refl
-decided_number (Write which place value) = refl
-decided_number (Abort code) = refl
+pub decided_number : (x : Result Decision Abort) → number_handed_back (outcome_of x) ≡ 0
+decided_number (Ok (Read size number)) = refl
+decided_number (Ok (Write which place value)) = refl
+decided_number (Err abort) = refl

@@ -1,4 +1,5 @@
 -- A call on words that hold a sound device leaves words that hold a sound device, the one of the library's answer: control word and error code stay within two bytes.
+use Rattle.std.specs.Prelude.{Result, Ok, Err}
 use mathlib.Core.Bool.{true}
 use mathlib.Core.List.{List}
 use mathlib.Core.Path.{◌≡◌, ◌∙◌}
@@ -24,7 +25,8 @@ use Rattle.dictionary.specs.Decide.{carried_out}
 use Rattle.dictionary.specs.Values.{written_to}
 use Rattle.dictionary.specs.Asked as Asked
 use Rattle.dictionary.specs.declared.Decision.{Decision}
-use Rattle.dictionary.specs.declared.Decision.TheVariants.{Read, Write, Abort}
+use Rattle.dictionary.specs.declared.Decision.TheVariants.{Read, Write}
+use Rattle.dictionary.specs.declared.Abort.{Abort}
 use Rattle.dictionary.proofs.Laws.{control_word}
 use Rattle.dictionary.proofs.Written.{to_setting, to_dither, to_receive, to_transmit, to_setpoint, to_selection, to_control, by_target}
 use Rattle.sdo.specs.Frames.{request_of}
@@ -93,10 +95,10 @@ written_small which place x d w m =
     (λ e. let s = selecting_beside (nat_abs x) d in rw (to_selection which place x d e) (record { control = rw s.control m.control; error = rw s.error m.error }))
     (λ e. rw (to_control which place x d e) (controlled_small (nat_abs x) d (omega (arith, (control_word e w.range).1.fits)) m))
 
-carried_small : (decision : Decision) (d : Device) → Asked.Decided decision → Small d → Small (carried_out decision d)
-carried_small (Read size number) d w m = m
-carried_small (Write which place x) d w m = written_small which place x d w.writes m
-carried_small (Abort code) d w m = m
+carried_small : (decision : Result Decision Abort) (d : Device) → Asked.Decided decision → Small d → Small (carried_out decision d)
+carried_small (Ok (Read size number)) d w m = m
+carried_small (Ok (Write which place x)) d w m = written_small which place x d w.writes m
+carried_small (Err abort) d w m = m
 
 sdo_small : (d : Device) (request : List ℕ) (room : ℕ) → Small d → Small (sdo_answer d request room).device
 unfolding served

@@ -11,7 +11,7 @@ use Rattle.device.specs.declared.Device.{Device}
 use Rattle.device.specs.declared.refusal.Refusal.{Refusal}
 use Rattle.sdo.specs.Frames.{number_handed_back}
 use Rattle.sdo.specs.declared.Outcome.{Outcome}
-use Rattle.sdo.specs.declared.Outcome.TheVariants.{Read, Written, Abort, Refused}
+use Rattle.sdo.specs.declared.Outcome.TheVariants.{Read, Written, Abort as Aborted, Refused}
 use Rattle.rainsheave.specs.Calls.{Report, number_of_report, bytes_sent, sdo_answer, send_answer, send_room_by, send_room, store_answer, room_by, store_room}
 use Rattle.rainsheave.specs.declared.Change.{Change}
 use Rattle.rainsheave.proofs.Promises.{sdo_unchanged, refusal_writes_nothing}
@@ -62,7 +62,7 @@ unchanged answer left before after r l c h =
 refusal_of : (o : Outcome) → number_handed_back o ≢ 0 → (refusal : Refusal) × (o ≡ Refused refusal)
 refusal_of (Read size number) h = absurd (h refl)
 refusal_of Written h = absurd (h refl)
-refusal_of (Abort code) h = absurd (h refl)
+refusal_of (Aborted abort) h = absurd (h refl)
 refusal_of (Refused refusal) h = (refusal, refl)
 
 sdo_refused : {request : List ℕ} {before after : List ℤ} {room left : List ℕ} {r : ℕ} → length before ≡ WORDS → SdoIs request before after room left r → r ≢ 0 → (after ≡ before) × (left ≡ room)

@@ -1,5 +1,5 @@
 -- Where the numbers of the dictionary lie: places within the table, values within their rows' ranges, and what an accepted write has shown.
-use Rattle.std.specs.Prelude.{Option, Some, None}
+use Rattle.std.specs.Prelude.{Option, Some, None, Result, Ok, Err}
 use mathlib.Core.Bool.{Bool, true, false, not, cond, ◌&&◌, ◌||◌}
 use mathlib.Core.Path.{◌≡◌, refl, sym, ◌∙◌}
 use Prim.Native.Nat.{ℕ, ◌<◌, ◌≤◌}
@@ -25,8 +25,7 @@ use Rattle.objects.proofs.Rules.{found_object, value_object, writable_below}
 use Rattle.block.specs.Block.{setting}
 use Rattle.block.proofs.Sound.{block_parts}
 use Rattle.block.proofs.Laws.{command_within}
-use Rattle.mapping.specs.declared.Ruling.{Ruling}
-use Rattle.mapping.specs.declared.Ruling.TheVariants.{Accepted, WhileCounted, AboveFour, NotMappable}
+use Rattle.mapping.specs.declared.Misfit.{Misfit}
 use Rattle.dither.specs.Wave.{dither_of}
 use Rattle.device.specs.States.{driven}
 use Rattle.device.specs.Queries.{device_command, block_command}
@@ -40,7 +39,8 @@ use Rattle.dictionary.specs.Decide.{crosses, is_locked, map_ruling, ruled, verdi
 use Rattle.dictionary.specs.Asked.{Valued, Writing, Writes, Decided}
 use Rattle.dictionary.specs.Accept.{Accept}
 use Rattle.dictionary.specs.declared.Decision.{Decision}
-use Rattle.dictionary.specs.declared.Decision.TheVariants.{Read, Write, Abort}
+use Rattle.dictionary.specs.declared.Decision.TheVariants.{Read, Write}
+use Rattle.dictionary.specs.declared.Abort.{Abort}
 
 -- ---- places
 
@@ -48,7 +48,7 @@ use Rattle.dictionary.specs.declared.Decision.TheVariants.{Read, Write, Abort}
 abbrev pub InTable : Named → Type 0
 InTable (value which place) = Object which place
 InTable (byte number) = Unit {0}
-InTable (nothing code) = Unit {0}
+InTable (nothing abort) = Unit {0}
 
 entered_in_table : (which place sub : ℕ) (entry : Option Entry) → entry_at (row_at place).entries sub ≡ entry → Object which place → InTable (entered which place entry)
 entered_in_table which place sub (Some (Value k)) e h = value_object which place sub k h e
@@ -67,12 +67,12 @@ named_in_table index sub = by (place_of index) refl
 abbrev is_value : Named → ℕ → ℕ → Bool
 is_value (value v k) which place = v is which && k is place
 is_value (byte number) which place = false
-is_value (nothing code) which place = false
+is_value (nothing abort) which place = false
 
 is_value_lem : (n : Named) (which place : ℕ) → is_value n which place ≡ true → n ≡ value which place
 is_value_lem (value v k) which place e = let both = and_split (v is which) (k is place) e in rw (eqb-true v which both.0, eqb-true k place both.1)
 is_value_lem (byte number) which place e = clash e refl
-is_value_lem (nothing code) which place e = clash e refl
+is_value_lem (nothing abort) which place e = clash e refl
 
 pub each_object_is_named : {which place : ℕ} → Object which place → named (index_of which place) (row_at place).sub ≡ value which place
 unfolding each objects is_of_block block_number named place_of place_from entry_at record_entry
@@ -129,15 +129,13 @@ selection_byte e w = let n = block_number_lem e w in (n.0, record { fits = omega
 -- ---- an accepted write
 
 -- what each test in turn has let through
-passed : (t : Bool) (code : ℕ) (rest : Decision) (which place : ℕ) (x : ℤ) → cond t (Abort code) rest ≡ Write which place x → (t ≡ false) × (rest ≡ Write which place x)
-passed true code rest which place x e = apart (cc)
-passed false code rest which place x e = (refl, e)
+passed : (t : Bool) (abort : Abort) (rest : Result Decision Abort) (v : Decision) → cond t (Err abort) rest ≡ Ok v → (t ≡ false) × (rest ≡ Ok v)
+passed true abort rest v e = apart (cc)
+passed false abort rest v e = (refl, e)
 
-let_through : (r : Ruling) (which place : ℕ) (x : ℤ) (w k : ℕ) (v : ℤ) → ruled r which place x ≡ Write w k v → (r ≡ Accepted) × (which ≡ w) × (place ≡ k) × (x ≡ v)
-let_through Accepted which place x w k v e = (refl, cc, cc, cc)
-let_through WhileCounted which place x w k v e = apart (cc)
-let_through AboveFour which place x w k v e = apart (cc)
-let_through NotMappable which place x w k v e = apart (cc)
+let_through : (r : Result (Unit {0}) Misfit) (which place : ℕ) (x : ℤ) (w k : ℕ) (v : ℤ) → ruled r which place x ≡ Ok (Write w k v) → (r ≡ Ok tt) × (which ≡ w) × (place ≡ k) × (x ≡ v)
+let_through (Ok taken) which place x w k v e = (refl, cc, cc, cc)
+let_through (Err misfit) which place x w k v e = apart (cc)
 
 pub between : {low high x : ℤ} → lt_z high x ≡ false → lt_z x low ≡ false → Within low high x
 between {low} {high} {x} h l = omega (arith, ints)
@@ -151,19 +149,19 @@ ruled_last d which place size x writable sized w uncrossed unlocked =
     rw (writable, eq-eqb (row_at place).size size sized, high, low, uncrossed, unlocked)
 
 -- so what no rule forbids is decided to be written
-pub is_accepted : {d : Device} {which place size : ℕ} {x : ℤ} → Accept d which place size x → verdict_on d which place size x ≡ Write which place x
+pub is_accepted : {d : Device} {which place size : ℕ} {x : ℤ} → Accept d which place size x → verdict_on d which place size x ≡ Ok (Write which place x)
 is_accepted {d} {which} {place} {size} {x} a = ruled_last d which place size x a.writable a.sized a.range a.uncrossed a.unlocked ∙ rw a.unruled
 
 -- and a write that was accepted is one that no rule forbids, of that value to that place
-pub accepted : (d : Device) (which place size : ℕ) (x : ℤ) (u k : ℕ) (v : ℤ) → verdict_on d which place size x ≡ Write u k v → Accept d which place size x × (which ≡ u) × (place ≡ k) × (x ≡ v)
+pub accepted : (d : Device) (which place size : ℕ) (x : ℤ) (u k : ℕ) (v : ℤ) → verdict_on d which place size x ≡ Ok (Write u k v) → Accept d which place size x × (which ≡ u) × (place ≡ k) × (x ≡ v)
 unfolding verdict_on
 accepted d which place size x u k v e =
-    let a = passed _ _ _ u k v e in
-    let b = passed _ _ _ u k v a.1 in
-    let c = passed _ _ _ u k v b.1 in
-    let f = passed _ _ _ u k v c.1 in
-    let g = passed _ _ _ u k v f.1 in
-    let h = passed _ _ _ u k v g.1 in
+    let a = passed _ _ _ _ e in
+    let b = passed _ _ _ _ a.1 in
+    let c = passed _ _ _ _ b.1 in
+    let f = passed _ _ _ _ c.1 in
+    let g = passed _ _ _ _ f.1 in
+    let h = passed _ _ _ _ g.1 in
     let w = let_through (map_ruling d.maps place x) which place x u k v h.1 in (
       record {
         writable = not-false _ a.0;
@@ -182,25 +180,25 @@ accepted d which place size x u k v e =
 pub accept_writes : {d : Device} {which place size : ℕ} {x : ℤ} → place < ROWS → Accept d which place size x → Writing place x
 accept_writes {place} h a = record { writable = writable_below place h a.writable; range = a.range }
 
-verdict_writes : (d : Device) (which place size : ℕ) (x : ℤ) → place < ROWS → (v : Decision) → verdict_on d which place size x ≡ v → Writes v
-verdict_writes d which place size x h (Read n m) e = tt
-verdict_writes d which place size x h (Write u k v) e =
+verdict_writes : (d : Device) (which place size : ℕ) (x : ℤ) → place < ROWS → (v : Result Decision Abort) → verdict_on d which place size x ≡ v → Writes v
+verdict_writes d which place size x h (Ok (Read n m)) e = tt
+verdict_writes d which place size x h (Ok (Write u k v)) e =
     let a = accepted d which place size x u k v e in
     rw (← a.2, ← a.3) (accept_writes h a.0)
-verdict_writes d which place size x h (Abort code) e = tt
+verdict_writes d which place size x h (Err abort) e = tt
 
 -- so is what a decision writes
 pub read_decided : (d : Device) (n : Named) → Decided (read_of d n)
 unfolding read_of
 read_decided d (value which place) = record { writes = tt }
 read_decided d (byte number) = record { writes = tt }
-read_decided d (nothing code) = record { writes = tt }
+read_decided d (nothing abort) = record { writes = tt }
 
 pub write_decided : (d : Device) (size number : ℕ) (n : Named) → InTable n → Decided (write_of d size number n)
 unfolding write_of
 write_decided d size number (value which place) h = record { writes = verdict_writes d which place size _ h.row _ refl }
 write_decided d size number (byte fixed) h = record { writes = tt }
-write_decided d size number (nothing code) h = record { writes = tt }
+write_decided d size number (nothing abort) h = record { writes = tt }
 
 pub write_decision_decided : (d : Device) (index sub size number : ℕ) → Decided (write_decision d index sub size number)
 unfolding write_decision

@@ -1,4 +1,5 @@
 -- The places of the dither and of the maps: which of its values or which sub-index each is, what range it has, what is read there and which rules a write meets.
+use Rattle.std.specs.Prelude.{Ok}
 use mathlib.Core.Bool.{false}
 use mathlib.Core.Path.{◌≡◌}
 use Prim.Native.Nat.{ℕ, ◌+◌, ◌-◌, ◌≤◌, ◌<◌}
@@ -18,7 +19,6 @@ use Rattle.objects.specs.Table.{row_at, InRange}
 use Rattle.objects.proofs.Rules.{most_at, IsMap, map_range, receive_map, transmit_map}
 use Rattle.mapping.specs.Maps.{ENTRIES, RECEIVABLE, SENDABLE, stands_at}
 use Rattle.mapping.specs.Rules.{ruling_on}
-use Rattle.mapping.specs.declared.Ruling.TheVariants.{Accepted}
 use Rattle.dither.specs.Dither as Dithers
 use Rattle.device.specs.declared.Device.{Device}
 use Rattle.dictionary.specs.Values.{value_at}
@@ -116,10 +116,10 @@ module _ (d : Device) (which place : ℕ) where
 -- ---- the rules that a write meets
 
 module _ (d : Device) {place : ℕ} (x : ℤ) where
-  pub receive_ruled : OfReceive place → map_ruling d.maps place x ≡ Accepted → ruling_on RECEIVABLE d.maps.receive (place - RECEIVE_MAP) (nat_abs x) ≡ Accepted
+  pub receive_ruled : OfReceive place → map_ruling d.maps place x ≡ Ok tt → ruling_on RECEIVABLE d.maps.receive (place - RECEIVE_MAP) (nat_abs x) ≡ Ok tt
   unfolding map_ruling
   receive_ruled m e = rw (le-ltb place RECEIVE_MAP m.0, lt-ltb place TRANSMIT_MAP m.1) at e
 
-  pub transmit_ruled : OfTransmit place → map_ruling d.maps place x ≡ Accepted → ruling_on SENDABLE d.maps.transmit (place - TRANSMIT_MAP) (nat_abs x) ≡ Accepted
+  pub transmit_ruled : OfTransmit place → map_ruling d.maps place x ≡ Ok tt → ruling_on SENDABLE d.maps.transmit (place - TRANSMIT_MAP) (nat_abs x) ≡ Ok tt
   unfolding map_ruling
   transmit_ruled m e = rw (le-ltb place RECEIVE_MAP (past_receive m), le-ltb place TRANSMIT_MAP m.0, lt-ltb place SET_POINT m.1) at e

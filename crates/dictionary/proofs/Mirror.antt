@@ -1,5 +1,5 @@
 -- A pressure object is to the pressure block what its counterpart, 80h below, is to the position block: what is read, decided and written of it is that of the counterpart, of the device with its blocks the other way round.
-use Rattle.std.specs.Prelude.{Option, Some, None}
+use Rattle.std.specs.Prelude.{Option, Some, None, Result, Ok, Err}
 use mathlib.Core.Bool.{true, not}
 use mathlib.Core.Path.{◌≡◌, refl, sym, ◌∙◌}
 use Prim.Native.Nat.{ℕ, ◌+◌, ◌≤◌, ◌<◌}
@@ -16,8 +16,7 @@ use Rattle.objects.specs.declared.Place.{Place}
 use Rattle.objects.specs.declared.Entry.{Entry}
 use Rattle.objects.specs.declared.Entry.TheVariants.{Value, Fixed}
 use Rattle.objects.proofs.Rules.{in_pressure, counterpart_place, found_in_position}
-use Rattle.mapping.specs.declared.Ruling.{Ruling}
-use Rattle.mapping.specs.declared.Ruling.TheVariants.{Accepted, WhileCounted, AboveFour, NotMappable}
+use Rattle.mapping.specs.declared.Misfit.{Misfit}
 use Rattle.device.specs.Device.{block_of, mirrored}
 use Rattle.device.specs.Sound.{Sound}
 use Rattle.device.specs.declared.Device.{Device}
@@ -26,7 +25,8 @@ use Rattle.dictionary.specs.Named.{Named, value, byte, nothing, entered, located
 use Rattle.dictionary.specs.Values.{value_at, written_to}
 use Rattle.dictionary.specs.Decide.{crosses, is_locked, map_ruling, ruled, verdict_on, read_of, read_decision, write_of, write_decision, carried_out}
 use Rattle.dictionary.specs.declared.Decision.{Decision}
-use Rattle.dictionary.specs.declared.Decision.TheVariants.{Read, Write, Abort}
+use Rattle.dictionary.specs.declared.Decision.TheVariants.{Read, Write}
+use Rattle.dictionary.specs.declared.Abort.{Abort}
 use Rattle.dictionary.proofs.Laws.{named_in_table}
 use Rattle.dictionary.proofs.Written.{to_setting, to_setpoint, value_of_setting}
 use Rattle.dictionary.proofs.Decisions.{write_origin}
@@ -37,7 +37,7 @@ use Rattle.dictionary.proofs.Decisions.{write_origin}
 abbrev pressured : Named → Named
 pressured (value which place) = value PRESSURE place
 pressured (byte number) = byte number
-pressured (nothing code) = nothing code
+pressured (nothing abort) = nothing abort
 
 module _ (index sub : ℕ) (from : 0x6300 ≤ index) (to : index ≤ 0x6345) where
   counterpart_named : named (index + ABOVE) sub ≡ pressured (named index sub)
@@ -61,7 +61,7 @@ module _ (index sub : ℕ) (from : 0x6300 ≤ index) (to : index ≤ 0x6345) whe
   abbrev IsOwn : Named → Type 0
   IsOwn (value which place) = Own which place
   IsOwn (byte number) = Unit {0}
-  IsOwn (nothing code) = Unit {0}
+  IsOwn (nothing abort) = Unit {0}
 
   names_own : IsOwn (named index sub)
   names_own = by (named index sub) refl
@@ -83,7 +83,7 @@ module _ (index sub : ℕ) (from : 0x6300 ≤ index) (to : index ≤ 0x6345) whe
           let o : Object PRESSURE place = rw (counterpart_named, f) at (named_in_table (index + ABOVE) sub) in
           record { position = position which place f; own = o.own refl }
       by (byte number) f = tt
-      by (nothing code) f = tt
+      by (nothing abort) f = tt
 
 -- ---- values
 
@@ -112,16 +112,14 @@ module _ {d : Device} (s : Sound d) (place : ℕ) (own : is_of_block place ≡ t
 -- ---- decisions
 
 -- the same, with a write to the pressure block
-abbrev pub across : Decision → Decision
-across (Read size number) = Read size number
-across (Write which place x) = Write PRESSURE place x
-across (Abort code) = Abort code
+abbrev pub across : Result Decision Abort → Result Decision Abort
+across (Ok (Read size number)) = Ok (Read size number)
+across (Ok (Write which place x)) = Ok (Write PRESSURE place x)
+across (Err abort) = Err abort
 
-across_ruled : (r : Ruling) (which place : ℕ) (x : ℤ) → ruled r PRESSURE place x ≡ across (ruled r which place x)
-across_ruled Accepted which place x = refl
-across_ruled WhileCounted which place x = refl
-across_ruled AboveFour which place x = refl
-across_ruled NotMappable which place x = refl
+across_ruled : (r : Result (Unit {0}) Misfit) (which place : ℕ) (x : ℤ) → ruled r PRESSURE place x ≡ across (ruled r which place x)
+across_ruled (Ok taken) which place x = refl
+across_ruled (Err misfit) which place x = refl
 
 module _ {d : Device} (s : Sound d) where
   verdict_across : (place size : ℕ) (x : ℤ) → verdict_on d PRESSURE place size x ≡ across (verdict_on (mirrored d) POSITION place size x)
@@ -145,7 +143,7 @@ module _ {d : Device} (s : Sound d) where
         by : (n : Named) → IsOwn index sub from to n → read_of d (pressured n) ≡ read_of (mirrored d) n
         by (value which place) o = rw (o.position, mirrored_value s place o.own)
         by (byte number) o = refl
-        by (nothing code) o = refl
+        by (nothing abort) o = refl
 
     pub counterpart_write : (size number : ℕ) → write_decision d (index + ABOVE) sub size number ≡ across (write_decision (mirrored d) index sub size number)
     unfolding write_decision write_of
@@ -154,16 +152,16 @@ module _ {d : Device} (s : Sound d) where
         by : (n : Named) → IsOwn index sub from to n → write_of d size number (pressured n) ≡ across (write_of (mirrored d) size number n)
         by (value which place) o = rw o.position (verdict_across place size _)
         by (byte number) o = refl
-        by (nothing code) o = refl
+        by (nothing abort) o = refl
 
     -- and what is written is written across
     pub counterpart_carried : (size number : ℕ) → carried_out (across (write_decision (mirrored d) index sub size number)) d ≡ mirrored (carried_out (write_decision (mirrored d) index sub size number) (mirrored d))
     counterpart_carried size number = by (write_decision (mirrored d) index sub size number) refl
       where
-        by : (v : Decision) → write_decision (mirrored d) index sub size number ≡ v → carried_out (across v) d ≡ mirrored (carried_out v (mirrored d))
-        by (Read n m) e = sym (mirrored_twice s)
-        by (Write which place x) e =
+        by : (v : Result Decision Abort) → write_decision (mirrored d) index sub size number ≡ v → carried_out (across v) d ≡ mirrored (carried_out v (mirrored d))
+        by (Ok (Read n m)) e = sym (mirrored_twice s)
+        by (Ok (Write which place x)) e =
             let o = write_origin (mirrored d) index sub size number which place x e in
             let own : Own index sub from to which place = rw o.found at (names_own index sub from to) in
             rw own.position (sym (mirrored_written s place own.own x))
-        by (Abort code) e = sym (mirrored_twice s)
+        by (Err abort) e = sym (mirrored_twice s)

@@ -1,5 +1,10 @@
 -- Document 01, "SDO": the codes of the aborts, in order; the fifth as wish 1 of document 02 has it, and those after the eighth as wish 2.
 use Rattle.std.specs.Prelude.{ℕ}
+use Rattle.mapping.specs.declared.Misfit.{Misfit}
+use Rattle.mapping.specs.declared.Misfit.TheVariants.{WhileCounted, AboveFour, NotMappable as MisfitNotMappable}
+use Rattle.dictionary.specs.declared.Abort.{Abort}
+use Rattle.dictionary.specs.declared.Abort.TheVariants.{UnknownCommand, NoObject, NoSubIndex, ReadOnlyEntry, TooManyBytes, TooFewBytes}
+use Rattle.dictionary.specs.declared.Abort.TheVariants.{TooHigh, TooLow, NoSuchChoice, LimitsCrossed, LockedNow, MapTooLong, NotMappable}
 
 -- 1: another command byte
 abbrev pub UNKNOWN_COMMAND : ℕ
@@ -49,3 +54,25 @@ MAP_TOO_LONG = 0x06040042
 -- 11: an entry that may not be mapped
 abbrev pub NOT_MAPPABLE : ℕ
 NOT_MAPPABLE = 0x06040041
+
+-- the code of each
+abbrev pub code_of : Abort → ℕ
+code_of UnknownCommand = UNKNOWN_COMMAND
+code_of NoObject = NO_OBJECT
+code_of NoSubIndex = NO_SUB_INDEX
+code_of ReadOnlyEntry = READ_ONLY_ENTRY
+code_of TooManyBytes = TOO_MANY_BYTES
+code_of TooFewBytes = TOO_FEW_BYTES
+code_of TooHigh = TOO_HIGH
+code_of TooLow = TOO_LOW
+code_of NoSuchChoice = NO_SUCH_CHOICE
+code_of LimitsCrossed = LIMITS_CROSSED
+code_of LockedNow = LOCKED_NOW
+code_of MapTooLong = MAP_TOO_LONG
+code_of NotMappable = NOT_MAPPABLE
+
+-- the abort of each write that a map does not take
+abbrev pub abort_of : Misfit → Abort
+abort_of WhileCounted = LockedNow
+abort_of AboveFour = MapTooLong
+abort_of MisfitNotMappable = NotMappable

@@ -1,5 +1,5 @@
 -- What the functions of the dictionary ask of what they are handed, and what `value_at` gives.
-use Rattle.std.specs.Prelude.{◌≡◌, ℕ, ◌+◌, ◌<◌, ◌≤◌, ℤ}
+use Rattle.std.specs.Prelude.{◌≡◌, ℕ, ◌+◌, ◌<◌, ◌≤◌, ℤ, Result, Ok, Err}
 use Rattle.objects.specs.Places.{RECEIVE_MAP, SET_POINT, WRITABLE, ROWS}
 use Rattle.objects.specs.Table.{row_at, InRange}
 use Rattle.objects.specs.declared.Row.{Row}
@@ -7,7 +7,8 @@ use Rattle.device.specs.Sound.{Sound}
 use Rattle.device.specs.declared.Device.{Device}
 use Rattle.dictionary.specs.Values.{value_at}
 use Rattle.dictionary.specs.declared.Decision.{Decision}
-use Rattle.dictionary.specs.declared.Decision.TheVariants.{Read, Write, Abort}
+use Rattle.dictionary.specs.declared.Decision.TheVariants.{Read, Write}
+use Rattle.dictionary.specs.declared.Abort.{Abort}
 
 -- a sound device, and a place of the table
 pub record Placed (d : Device) (place : ℕ) : Type 0 where
@@ -59,10 +60,10 @@ pub record MapWriting (place : ℕ) (x : ℤ) : Type 0 where
   pub range : InRange place x
 
 -- what a decision writes, if it is a write, is a value for an object that can be written
-abbrev pub Writes : Decision → Type 0
-Writes (Read size number) = Unit {0}
-Writes (Write which place x) = Writing place x
-Writes (Abort code) = Unit {0}
+abbrev pub Writes : Result Decision Abort → Type 0
+Writes (Ok (Read size number)) = Unit {0}
+Writes (Ok (Write which place x)) = Writing place x
+Writes (Err abort) = Unit {0}
 
-pub record Decided (decision : Decision) : Type 0 where
+pub record Decided (decision : Result Decision Abort) : Type 0 where
   pub writes : Writes decision

@@ -1,24 +1,26 @@
 #![tactic(auto)]
 // The object dictionary: what an index and a sub-index name, what becomes of a read or a write of it, as a decision, and the carrying
 // out of that.
-ghost use Rattle.std.specs.Prelude.{◌≡◌, ◌+◌};
+ghost use Rattle.std.specs.Prelude.{◌≡◌, ◌+◌, if◌then◌else◌};
+ghost use Rattle.integers.specs.Words.{◌is◌};
+ghost use Rattle.dictionary.specs.Aborts.{code_of, abort_of};
 ghost use Rattle.dictionary.specs.Values.{value_at, written_to};
 ghost use Rattle.dictionary.specs.Named as Named;
 ghost use Rattle.objects.specs.Table.{row_at};
-ghost use Rattle.dictionary.specs.Decide.{is_locked, size_code, range_code, map_ruling, read_of, read_decision, write_of, write_decision, carried_out};
+ghost use Rattle.dictionary.specs.Decide.{is_locked, size_abort, range_abort, range_rule, map_ruling, read_of, read_decision, write_of, write_decision, carried_out};
 ghost use Rattle.dictionary.specs.Decide as Decide;
 ghost use Rattle.dictionary.specs.Asked.{Placed, Other, Mapped, Looked, After, Ranged, Valued, Writing, MapWriting, Decided};
 ghost use Rattle.device.specs.Sound.{Sound};
 
 use block::Block;
 use device::{ACTIVE, DISABLED, Device};
-use mapping::{Maps, RECEIVABLE, Ruling, SENDABLE};
+use mapping::{Maps, Misfit, RECEIVABLE, SENDABLE};
 use objects::{
     CONTROL_WORD, DITHER_TYPE, ERROR_CODE, Entry, LOWER_LIMIT, Lock, Place, RECEIVE_MAP, Row,
     SELECTION, SET_POINT, SETTINGS, STATUS_WORD, TRANSMIT_MAP, UPPER_LIMIT,
 };
 
-// The aborts, in document 01's order, and those of a map after them.
+// The codes of the aborts, in document 01's order, and those of a map after them.
 pub const UNKNOWN_COMMAND: u32 = 0x05040001;
 
 pub const NO_OBJECT: u32 = 0x06020000;
@@ -45,12 +47,64 @@ pub const MAP_TOO_LONG: u32 = 0x06040042;
 
 pub const NOT_MAPPABLE: u32 = 0x06040041;
 
-// What becomes of a request: so many bytes of a number read, a value to be written to a place of a block, or an abort with its code.
+// Why a request is aborted.
+#[derive(Clone, Copy)]
+pub enum Abort {
+    UnknownCommand,
+    NoObject,
+    NoSubIndex,
+    ReadOnlyEntry,
+    TooManyBytes,
+    TooFewBytes,
+    TooHigh,
+    TooLow,
+    NoSuchChoice,
+    LimitsCrossed,
+    LockedNow,
+    MapTooLong,
+    NotMappable,
+}
+
+impl Abort {
+    // The code that the reply has.
+    pub fn code(self) -> u32
+        ensures { result ≡ code_of self }
+    {
+        match self {
+            Abort::UnknownCommand => UNKNOWN_COMMAND,
+            Abort::NoObject => NO_OBJECT,
+            Abort::NoSubIndex => NO_SUB_INDEX,
+            Abort::ReadOnlyEntry => READ_ONLY_ENTRY,
+            Abort::TooManyBytes => TOO_MANY_BYTES,
+            Abort::TooFewBytes => TOO_FEW_BYTES,
+            Abort::TooHigh => TOO_HIGH,
+            Abort::TooLow => TOO_LOW,
+            Abort::NoSuchChoice => NO_SUCH_CHOICE,
+            Abort::LimitsCrossed => LIMITS_CROSSED,
+            Abort::LockedNow => LOCKED_NOW,
+            Abort::MapTooLong => MAP_TOO_LONG,
+            Abort::NotMappable => NOT_MAPPABLE,
+        }
+    }
+}
+
+impl From<Misfit> for Abort {
+    ghost from_gives = { λ misfit abort. abort ≡ abort_of misfit };
+
+    fn from(misfit: Misfit) -> Abort {
+        match misfit {
+            Misfit::WhileCounted => Abort::LockedNow,
+            Misfit::AboveFour => Abort::MapTooLong,
+            Misfit::NotMappable => Abort::NotMappable,
+        }
+    }
+}
+
+// What becomes of a request that isn't aborted: so many bytes of a number read, or a value to be written to a place of a block.
 #[derive(Clone, Copy)]
 pub enum Decision {
     Read { size: u8, number: u32 },
     Write { which: u8, place: usize, value: i64 },
-    Abort(u32),
 }
 
 // ---- values
@@ -60,13 +114,10 @@ fn map_value(device: Device, which: u8, place: usize) -> i64
     requires { Mapped device place }
     ensures { Valued device which place result }
 {
-    let maps = device.maps;
     if place < TRANSMIT_MAP {
-        let map = maps.receive;
-        mapping::stands_at(map, place - RECEIVE_MAP) as i64
+        mapping::stands_at(device.maps.receive, place - RECEIVE_MAP) as i64
     } else {
-        let map = maps.transmit;
-        mapping::stands_at(map, place - TRANSMIT_MAP) as i64
+        mapping::stands_at(device.maps.transmit, place - TRANSMIT_MAP) as i64
     }
 }
 
@@ -77,10 +128,7 @@ fn other_value(device: Device, which: u8, place: usize) -> i64
     ensures { Valued device which place result }
 {
     match place {
-        SET_POINT => {
-            let block = device::block_of(device, which);
-            block.setpoint
-        }
+        SET_POINT => device::block_of(device, which).setpoint,
         SELECTION => device.selected as i64,
         CONTROL_WORD => device.control as i64,
         STATUS_WORD => device::status(device) as i64,
@@ -96,11 +144,9 @@ fn value_at(device: Device, which: u8, place: usize) -> i64
     ensures { Valued device which place result }
 {
     if place < SETTINGS {
-        let block = device::block_of(device, which);
-        block::setting(block, place)
+        block::setting(device::block_of(device, which), place)
     } else if place < RECEIVE_MAP {
-        let dither = device.dither;
-        dither::stands_at(dither, place - DITHER_TYPE)
+        dither::stands_at(device.dither, place - DITHER_TYPE)
     } else if place < SET_POINT {
         map_value(device, which, place)
     } else {
@@ -126,7 +172,7 @@ fn row_after(place: usize, row: Row, k: u8) -> Row
 #[tactic(auto, unfolding(crate::specs::Decide::read_of))]
 fn read_value(device: Device, which: u8, place: usize, row: Row) -> Decision
     requires { Looked device place row }
-    ensures { result ≡ read_of device (Named.value which place) }
+    ensures { Ok result ≡ read_of device (Named.value which place) }
 {
     let size = row.size;
     let number = coding::number_of(size, value_at(device, which, place));
@@ -135,23 +181,24 @@ fn read_value(device: Device, which: u8, place: usize, row: Row) -> Decision
 
 // What becomes of a read of an index and a sub-index. The row is looked up and handed on.
 #[tactic(auto, using(objects::proofs::Rules::found_below, objects::proofs::Rules::value_below), unfolding(crate::specs::Named::named, crate::specs::Decide::read_decision, crate::specs::Decide::read_of))]
-pub fn decide_read(device: Device, index: u16, sub: u8) -> Decision
+pub fn decide_read(device: Device, index: u16, sub: u8) -> Result<Decision, Abort>
     requires { Sound device }
     ensures { result ≡ read_decision device index sub }
 {
     let Some(Place { which, place }) = objects::place_of(index) else {
-        return Decision::Abort(NO_OBJECT);
+        return Err(Abort::NoObject);
     };
     let row = objects::row_at(place);
     match objects::entry_at(row.entries, sub) {
         Some(Entry::Value(k)) => {
-            read_value(device, which, place + k as usize, row_after(place, row, k))
+            let row = row_after(place, row, k);
+            Ok(read_value(device, which, place + k as usize, row))
         }
-        Some(Entry::Fixed(byte)) => Decision::Read {
+        Some(Entry::Fixed(byte)) => Ok(Decision::Read {
             size: 1,
             number: byte as u32,
-        },
-        None => Decision::Abort(NO_SUB_INDEX),
+        }),
+        None => Err(Abort::NoSubIndex),
     }
 }
 
@@ -181,111 +228,118 @@ fn is_locked(lock: Lock, state: u8) -> bool
     }
 }
 
-// Where the size differs from the type's: one code for too many bytes, one for too few.
-fn size_code(has: u8, sent: u8) -> u32
-    ensures { result ≡ size_code has sent }
+// A rule that one abort tells.
+fn abort_if(broken: bool, abort: Abort) -> Result<(), Abort>
+    ensures { result ≡ (if broken then Err abort else Ok tt) }
 {
+    if broken { Err(abort) } else { Ok(()) }
+}
+
+// As many bytes have to be sent as the type has: one abort for too many, one for too few.
+fn check_size(has: u8, sent: u8) -> Result<(), Abort>
+    ensures { result ≡ (if has is sent then Ok tt else Err (size_abort has sent)) }
+{
+    if has == sent {
+        return Ok(());
+    }
     if has < sent {
-        TOO_MANY_BYTES
+        Err(Abort::TooManyBytes)
     } else {
-        TOO_FEW_BYTES
+        Err(Abort::TooFewBytes)
     }
 }
 
-// A choice among numbered kinds has one code for both ways out of its range.
-fn range_code(choice: bool, code: u32) -> u32
-    ensures { result ≡ range_code choice code }
+// A choice among numbered kinds has one abort for both ways out of its range.
+fn range_abort(choice: bool, abort: Abort) -> Abort
+    ensures { result ≡ range_abort choice abort }
 {
-    if choice { NO_SUCH_CHOICE } else { code }
+    if choice { Abort::NoSuchChoice } else { abort }
+}
+
+// A value has to lie in its row's range.
+fn check_range(row: Row, value: i64) -> Result<(), Abort>
+    ensures { result ≡ range_rule row value }
+{
+    if row.high < value {
+        return Err(range_abort(row.choice, Abort::TooHigh));
+    }
+    if value < row.low {
+        return Err(range_abort(row.choice, Abort::TooLow));
+    }
+    Ok(())
 }
 
 // What the rules of a map say of a write to a place; elsewhere they allow all.
 #[tactic(auto, unfolding(crate::specs::Decide::map_ruling))]
-fn map_ruling(maps: Maps, place: usize, value: i64) -> Ruling
+fn map_ruling(maps: Maps, place: usize, value: i64) -> Result<(), Misfit>
     requires { Ranged place value }
     ensures { result ≡ map_ruling maps place value }
 {
     if place < RECEIVE_MAP {
-        return Ruling::Accepted;
+        return Ok(());
     }
     if place < TRANSMIT_MAP {
-        let map = maps.receive;
-        return mapping::ruling_on(RECEIVABLE, map, place - RECEIVE_MAP, value as u32);
+        return mapping::ruling_on(RECEIVABLE, maps.receive, place - RECEIVE_MAP, value as u32);
     }
     if place < SET_POINT {
-        let map = maps.transmit;
-        return mapping::ruling_on(SENDABLE, map, place - TRANSMIT_MAP, value as u32);
+        return mapping::ruling_on(SENDABLE, maps.transmit, place - TRANSMIT_MAP, value as u32);
     }
-    Ruling::Accepted
+    Ok(())
 }
 
-// The decision that a ruling leads to.
-fn ruled(ruling: Ruling, which: u8, place: usize, value: i64) -> Decision
-    ensures { result ≡ Decide.ruled ruling which place value }
-{
-    match ruling {
-        Ruling::Accepted => Decision::Write {
-            which,
-            place,
-            value,
-        },
-        Ruling::WhileCounted => Decision::Abort(LOCKED_NOW),
-        Ruling::AboveFour => Decision::Abort(MAP_TOO_LONG),
-        Ruling::NotMappable => Decision::Abort(NOT_MAPPABLE),
-    }
-}
-
-// The aborts of a write of so many bytes of a number, from the fourth on.
+// The aborts of a write of so many bytes of a number, from the fourth on, in their order.
 #[tactic(auto, unfolding(crate::specs::Decide::write_of, crate::specs::Decide::verdict_on))]
-fn write_value(device: Device, which: u8, place: usize, row: Row, size: u8, number: u32) -> Decision
+fn write_value(
+    device: Device,
+    which: u8,
+    place: usize,
+    row: Row,
+    size: u8,
+    number: u32,
+) -> Result<Decision, Abort>
     requires { Looked device place row }
     ensures { result ≡ write_of device size number (Named.value which place) }
 {
-    if !row.writable {
-        return Decision::Abort(READ_ONLY_ENTRY);
-    }
-    if row.size != size {
-        return Decision::Abort(size_code(row.size, size));
-    }
+    abort_if(!row.writable, Abort::ReadOnlyEntry)?;
+    check_size(row.size, size)?;
     let value = coding::value_of(row.size, row.signed, number);
-    if row.high < value {
-        return Decision::Abort(range_code(row.choice, TOO_HIGH));
-    }
-    if value < row.low {
-        return Decision::Abort(range_code(row.choice, TOO_LOW));
-    }
-    let written = device::block_of(device, which);
-    if crosses(written, place, value) {
-        return Decision::Abort(LIMITS_CROSSED);
-    }
-    if is_locked(row.lock, device.state) {
-        return Decision::Abort(LOCKED_NOW);
-    }
-    let maps = device.maps;
-    ruled(map_ruling(maps, place, value), which, place, value)
+    check_range(row, value)?;
+    abort_if(
+        crosses(device::block_of(device, which), place, value),
+        Abort::LimitsCrossed,
+    )?;
+    abort_if(is_locked(row.lock, device.state), Abort::LockedNow)?;
+    map_ruling(device.maps, place, value)?;
+    Ok(Decision::Write {
+        which,
+        place,
+        value,
+    })
 }
 
 // What becomes of a write to an index and a sub-index. The row is looked up and handed on.
 #[tactic(auto, using(objects::proofs::Rules::found_below, objects::proofs::Rules::value_below), unfolding(crate::specs::Named::named, crate::specs::Decide::write_decision, crate::specs::Decide::write_of))]
-pub fn decide_write(device: Device, index: u16, sub: u8, size: u8, number: u32) -> Decision
+pub fn decide_write(
+    device: Device,
+    index: u16,
+    sub: u8,
+    size: u8,
+    number: u32,
+) -> Result<Decision, Abort>
     requires { Sound device }
     ensures { result ≡ write_decision device index sub size number }
 {
     let Some(Place { which, place }) = objects::place_of(index) else {
-        return Decision::Abort(NO_OBJECT);
+        return Err(Abort::NoObject);
     };
     let row = objects::row_at(place);
     match objects::entry_at(row.entries, sub) {
-        Some(Entry::Value(k)) => write_value(
-            device,
-            which,
-            place + k as usize,
-            row_after(place, row, k),
-            size,
-            number,
-        ),
-        Some(Entry::Fixed(_)) => Decision::Abort(READ_ONLY_ENTRY),
-        None => Decision::Abort(NO_SUB_INDEX),
+        Some(Entry::Value(k)) => {
+            let row = row_after(place, row, k);
+            write_value(device, which, place + k as usize, row, size, number)
+        }
+        Some(Entry::Fixed(_)) => Err(Abort::ReadOnlyEntry),
+        None => Err(Abort::NoSubIndex),
     }
 }
 
@@ -300,12 +354,10 @@ fn map_written(device: Device, which: u8, place: usize, value: i64) -> Device
     let maps = device.maps;
     let number = value as u32;
     if place < TRANSMIT_MAP {
-        let map = maps.receive;
-        let map = mapping::with_at(map, place - RECEIVE_MAP, number);
+        let map = mapping::with_at(maps.receive, place - RECEIVE_MAP, number);
         device::with_maps(device, mapping::with_receive(maps, map))
     } else {
-        let map = maps.transmit;
-        let map = mapping::with_at(map, place - TRANSMIT_MAP, number);
+        let map = mapping::with_at(maps.transmit, place - TRANSMIT_MAP, number);
         device::with_maps(device, mapping::with_transmit(maps, map))
     }
 }
@@ -321,8 +373,7 @@ fn written_to(device: Device, which: u8, place: usize, value: i64) -> Device
         return device::with_block_of(device, which, block::with_setting(block, place, value));
     }
     if place < RECEIVE_MAP {
-        let dither = device.dither;
-        let dither = dither::with_at(dither, place - DITHER_TYPE, value);
+        let dither = dither::with_at(device.dither, place - DITHER_TYPE, value);
         return device::with_dither(device, dither);
     }
     if place < SET_POINT {
@@ -340,17 +391,18 @@ fn written_to(device: Device, which: u8, place: usize, value: i64) -> Device
 }
 
 // The device after a decision: only a write changes it.
-pub fn carry_out(device: Device, decision: Decision) -> Device
+pub fn carry_out(device: Device, decision: Result<Decision, Abort>) -> Device
     requires { Decided decision }
     ensures { result ≡ carried_out decision device }
 {
     match decision {
-        Decision::Read { size: _, number: _ } => device,
-        Decision::Write {
-            which,
-            place,
-            value,
-        } => written_to(device, which, place, value),
-        Decision::Abort(_) => device,
+        Ok(
+            Decision::Write {
+                which,
+                place,
+                value,
+            },
+        ) => written_to(device, which, place, value),
+        Ok(Decision::Read { size: _, number: _ }) | Err(_) => device,
     }
 }

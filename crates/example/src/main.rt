@@ -99,7 +99,7 @@ fn show_outcome(rt: &impl Print, outcome: Outcome) -> io::Result<()> {
     match outcome {
         Outcome::Read { size: _, number } => println!(rt; ": value {number}"),
         Outcome::Written => println!(rt; ": done"),
-        Outcome::Abort(code) => println!(rt; ": abort {code:08x}h"),
+        Outcome::Abort(abort) => println!(rt; ": abort {:08x}h", abort.code()),
         Outcome::Refused(refusal) => println!(rt; ": refused by {}", refusal.number()),
     }
 }

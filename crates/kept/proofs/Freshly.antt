@@ -18,8 +18,10 @@ use Rattle.dither.specs.Dither.{fresh_dither}
 use Rattle.dither.specs.Dither as Dithers
 use Rattle.device.specs.Device.{fresh_device, block_of}
 use Rattle.device.proofs.Laws.{fresh_sound}
-use Rattle.dictionary.specs.Named.{value, nothing, named}
+use Rattle.dictionary.specs.Named.{nothing, named}
 use Rattle.dictionary.specs.Values.{value_at}
+use Rattle.dictionary.specs.declared.Abort.{Abort}
+use Rattle.dictionary.specs.declared.Abort.TheVariants.{NoObject, NoSubIndex}
 use Rattle.promises.specs.Sheet.{line_at, has_entry, is_held}
 use Rattle.promises.specs.Promises.{fresh_told}
 use Rattle.promises.proofs.Sheets.{unheld}
@@ -46,9 +48,9 @@ fresh_row which place w h =
 -- ---- the lines
 
 -- what has no line holds 0
-pub unlisted : (index sub : ℕ) → has_entry index sub ≡ false → {X : Type 0} → ((code : ℕ) → named index sub ≡ nothing code → X) → X
+pub unlisted : (index sub : ℕ) → has_entry index sub ≡ false → {X : Type 0} → ((abort : Abort) → named index sub ≡ nothing abort → X) → X
 unlisted index sub h f =
-    by_cases (has_entry index 0) (λ e. f 0x06090011 (no_entry index sub e h)) (λ e. f 0x06020000 (no_object index sub e))
+    by_cases (has_entry index 0) (λ e. f NoSubIndex (no_entry index sub e h)) (λ e. f NoObject (no_object index sub e))
 
 fresh_value : (index sub : ℕ) → held_by fresh_device index sub ≡ (if is_held (line_at index sub) then (line_at index sub).fresh else pos 0)
 fresh_value index sub =
@@ -61,7 +63,7 @@ fresh_value index sub =
     rw (k, held_told fresh_device index sub which place e early, a.fresh k) (fresh_row which place o.block early))
     (λ k. rw (k, e, sym a.held ∙ k)))
     (λ number e b. rw (e, b.read_only)))
-    (λ h. unlisted index sub h (λ code e. rw (unheld index sub h, e)))
+    (λ h. unlisted index sub h (λ abort e. rw (unheld index sub h, e)))
 
 pub fresh_told_lem : told_of fresh_device ≡ fresh_told
 fresh_told_lem = sound_told fresh_sound ∙ plain

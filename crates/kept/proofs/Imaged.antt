@@ -265,7 +265,7 @@ fits_is {d} s bytes =
 abbrev is_stored : Named → Bool
 is_stored (value which place) = which is POSITION && place below SETTINGS
 is_stored (byte number) = false
-is_stored (nothing code) = false
+is_stored (nothing abort) = false
 
 by_stored {ℓ} : (n : Named) {X : Type ℓ} → ((place : ℕ) → place < SETTINGS → n ≡ value POSITION place → X) → (is_stored n ≡ false → X) → X
 by_stored (value which place) f g =
@@ -275,7 +275,7 @@ by_stored (value which place) f g =
     f place (ltb-true _ _ both.1) (rw (eqb-true which POSITION both.0)))
     g
 by_stored (byte number) f g = g refl
-by_stored (nothing code) f g = g refl
+by_stored (nothing abort) f g = g refl
 
 module _ {d : Device} (s : Sound d) (settings : List ℤ) where
   abbrev after : Device
@@ -313,7 +313,7 @@ module _ {d : Device} (s : Sound d) (settings : List ℤ) where
       (λ l. later_kept which place o.block l h)))
       (λ h. rw (le-ltb place SELECTION h))
   held_kept (byte number) o e = refl
-  held_kept (nothing code) o e = refl
+  held_kept (nothing abort) o e = refl
 
   after_whole : length settings ≡ SETTINGS → is_whole after ≡ true
   after_whole long =

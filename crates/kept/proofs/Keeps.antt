@@ -1,6 +1,6 @@
 -- The library keeps the promises. Of each call the conditions are gone through in their order: where one holds, the answer is the refusal by
 -- its number; where none does, the device is sound, and what it answers is what the rules say of what is told.
-use Rattle.std.specs.Prelude.{Ok, Err}
+use Rattle.std.specs.Prelude.{Result, Ok, Err}
 use mathlib.Core.Bool.{Bool, true}
 use mathlib.Core.List.{List}
 use mathlib.Core.Logic.{◌≢◌}
@@ -21,7 +21,8 @@ use Rattle.device.specs.declared.Device.{Device}
 use Rattle.device.specs.declared.refusal.Refusal.{Refusal}
 use Rattle.device.specs.declared.refusal.Refusal.TheVariants.{Unsound, WrongLength, NoRoom, NoReplyDue}
 use Rattle.dictionary.specs.declared.Decision.{Decision}
-use Rattle.dictionary.specs.declared.Decision.TheVariants.{Read, Write, Abort}
+use Rattle.dictionary.specs.declared.Decision.TheVariants.{Read, Write}
+use Rattle.dictionary.specs.declared.Abort.{Abort}
 use Rattle.sdo.specs.Frames.{request_of, number_handed_back, replied_in}
 use Rattle.sdo.specs.Serve.{decision_on, outcome_of, served}
 use Rattle.sdo.specs.declared.Outcome.TheVariants.{Refused}
@@ -63,10 +64,10 @@ is_sound e = record { sound = e }
 
 -- ---- requests
 
-no_number : (x : Decision) → number_handed_back (outcome_of x) ≡ 0
-no_number (Read size number) = refl
-no_number (Write which place x) = refl
-no_number (Abort code) = refl
+no_number : (x : Result Decision Abort) → number_handed_back (outcome_of x) ≡ 0
+no_number (Ok (Read size number)) = refl
+no_number (Ok (Write which place x)) = refl
+no_number (Err abort) = refl
 
 sdo_kept : (request room : List ℕ) (d : Device) → Kept (sdo request room) d
 unfolding sdo_answer sdo_room

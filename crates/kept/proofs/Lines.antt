@@ -21,6 +21,7 @@ use Rattle.objects.proofs.Rules.{of_pressure, below_pressure, above_pressure}
 use Rattle.coding.specs.Coding.{span, number_of, in_span, value_of}
 use Rattle.dictionary.specs.Named.{Named, value, byte, nothing, located, named}
 use Rattle.dictionary.specs.Decide.{is_locked}
+use Rattle.dictionary.specs.declared.Abort.TheVariants.{NoObject, NoSubIndex}
 use Rattle.dictionary.proofs.Laws.{InTable, named_in_table}
 use Rattle.promises.specs.Library.{Told}
 use Rattle.promises.specs.Sheet.{Line, sheet, line_at, has_entry, is_read_only, is_held}
@@ -84,7 +85,7 @@ module _ (index : ℕ) (h : has_entry index 0 ≡ false) where
       (λ m. rw (of_pressure index l (omega arith), nowhere 0 objects (index - ABOVE) (no_counterpart l m)))
       (λ m. rw (above_pressure index m, nowhere 0 objects index no_row)))
 
-pub no_object : (index sub : ℕ) → has_entry index 0 ≡ false → named index sub ≡ nothing 0x06020000
+pub no_object : (index sub : ℕ) → has_entry index 0 ≡ false → named index sub ≡ nothing NoObject
 unfolding named
 no_object index sub h = rw (no_place index h)
 
@@ -93,12 +94,14 @@ no_object index sub h = rw (no_place index h)
 abbrev is_missing : Named → Bool
 is_missing (value which place) = false
 is_missing (byte number) = false
-is_missing (nothing code) = code is 0x06090011
+is_missing (nothing NoSubIndex) = true
+is_missing (nothing _) = false
 
-is_missing_lem : (n : Named) → is_missing n ≡ true → n ≡ nothing 0x06090011
+is_missing_lem : (n : Named) → is_missing n ≡ true → n ≡ nothing NoSubIndex
 is_missing_lem (value which place) e = clash e refl
 is_missing_lem (byte number) e = clash e refl
-is_missing_lem (nothing code) e = rw (eqb-true code 0x06090011 e)
+is_missing_lem (nothing NoSubIndex) e = refl
+is_missing_lem (nothing _) e = clash e refl
 
 -- sub-indexes 0 to 4 are computed; beyond them no object has entries
 abbrev subs_listed : ℕ → Bool
@@ -116,12 +119,12 @@ few_listed : of_all (λ l. has_few (place_of l.index)) sheet ≡ true
 unfolding sheet objects place_of place_from block_number
 few_listed = refl
 
-beyond : (sub : ℕ) → 5 ≤ sub → (found : Option Place) → has_few found ≡ true → located found sub ≡ nothing 0x06090011
+beyond : (sub : ℕ) → 5 ≤ sub → (found : Option Place) → has_few found ≡ true → located found sub ≡ nothing NoSubIndex
 unfolding entry_at
 beyond sub h (Some p) e = let few = ltb-true (row_at p.place).entries 5 e in rw (lt-ltb (row_at p.place).entries sub (omega arith))
 beyond sub h None e = clash e refl
 
-pub no_entry : (index sub : ℕ) → has_entry index 0 ≡ true → has_entry index sub ≡ false → named index sub ≡ nothing 0x06090011
+pub no_entry : (index sub : ℕ) → has_entry index 0 ≡ true → has_entry index sub ≡ false → named index sub ≡ nothing NoSubIndex
 no_entry index sub h n =
     by_less sub 5
     (λ l. is_missing_lem _ (rw n at (each_at 5 (λ k. has_entry index k || is_missing (named index k)) sub (of_index subs_listed index 0 subs_listed_lem h) l)))
@@ -199,7 +202,7 @@ byte_tests l number =
 abbrev pub agrees : Line → Named → Bool
 agrees l (value which place) = all_hold (tests l which place)
 agrees l (byte number) = all_hold (byte_tests l number)
-agrees l (nothing code) = false
+agrees l (nothing abort) = false
 
 pub all_agree : of_all (λ l. agrees l (named l.index l.sub)) sheet ≡ true
 unfolding sheet objects is_signed is_choice each named place_of place_from block_number entry_at record_entry is_locked number_for
@@ -301,15 +304,15 @@ module _ (index sub : ℕ) (h : has_entry index sub ≡ true) where
       by : (n : Named) → named index sub ≡ n → agrees (line_at index sub) n ≡ true → InTable n → X
       by (value which place) e a o = f which place e o (agreed _ which place a)
       by (byte number) e a o = g number e (is_byte _ number a)
-      by (nothing code) e a o = clash a refl
+      by (nothing abort) e a o = clash a refl
 
 -- ---- what is named has a line, and a value one name
 
 pub listed : (index sub which place : ℕ) → named index sub ≡ value which place → has_entry index sub ≡ true
 listed index sub which place e =
     by_cases (has_entry index 0)
-    (λ h. by_cases (has_entry index sub) (λ k. k) (λ k. let never : value which place ≡ nothing 0x06090011 = sym e ∙ no_entry index sub h k in apart (cc)))
-    (λ h. let never : value which place ≡ nothing 0x06020000 = sym e ∙ no_object index sub h in apart (cc))
+    (λ h. by_cases (has_entry index sub) (λ k. k) (λ k. let never : value which place ≡ nothing NoSubIndex = sym e ∙ no_entry index sub h k in apart (cc)))
+    (λ h. let never : value which place ≡ nothing NoObject = sym e ∙ no_object index sub h in apart (cc))
 
 -- so a value is that of its line
 pub by_value {ℓ} :

@@ -79,7 +79,7 @@ module _ (d : Device) (p : ℤ) (state control error phase : ℕ) where
   placed_held (value which place) =
       by_cases (place below SELECTION) (λ e. rw e (placed_value which place (ltb-true place SELECTION e))) (λ e. rw e)
   placed_held (byte number) = refl
-  placed_held (nothing code) = refl
+  placed_held (nothing abort) = refl
 
   pub placed_plain : plain_told (placed d p state control error phase) ≡ moved state control error p phase (plain_told d)
   placed_plain =

@@ -1,6 +1,6 @@
 -- SDO requests. What a line's value is told is the value that its index and sub-index name; each test of a decision is the condition of its line in the
 -- list of aborts, so the first that holds is the abort; and an accepted write leaves every other value as it was, since a value has one name.
-use Rattle.std.specs.Prelude.{if◌then◌else◌}
+use Rattle.std.specs.Prelude.{Result, Ok, Err, if◌then◌else◌}
 use mathlib.Core.Bool.{Bool, true, false, not, cond, ◌&&◌, ◌||◌}
 use mathlib.Core.List.{List, [], ◌∷◌, ◌++◌}
 use mathlib.Core.Logic.{◌≢◌}
@@ -11,7 +11,7 @@ use borrow.Author.Tests.{eqb-true, eqb-false, eq-eqb, ne_eqb, lt-ltb, le-ltb, lt
 use lib.IntN.{ℤ, nat_abs}
 use lib.ListN.{drop}
 use Rattle.integers.specs.Words.{each, ◌is◌, ◌below◌, ◌<?◌, ◌among◌}
-use Rattle.integers.proofs.Cases.{by_cases, by_less, clash}
+use Rattle.integers.proofs.Cases.{by_cases, by_less, clash, apart}
 use Rattle.integers.proofs.Each.{and_split}
 use Rattle.objects.specs.Places.{UPPER_LIMIT, LOWER_LIMIT, RECEIVE_MAP, TRANSMIT_MAP, SET_POINT, SELECTION, CONTROL_WORD, STATUS_WORD, ERROR_CODE, COMMAND}
 use Rattle.objects.specs.Places.{WRITABLE, POSITION}
@@ -21,19 +21,20 @@ use Rattle.coding.specs.Bytes.{four_bytes}
 use Rattle.mapping.specs.Maps.{RECEIVABLE, SENDABLE, entry_of}
 use Rattle.mapping.specs.Rules.{each_mapped, is_right, ruling_on}
 use Rattle.mapping.specs.declared.Map.{Map}
-use Rattle.mapping.specs.declared.Ruling.TheVariants.{Accepted}
 use Rattle.device.specs.Device.{block_of}
 use Rattle.device.specs.Queries.{block_command, device_command, status_of}
 use Rattle.device.specs.Sound.{Sound}
 use Rattle.device.specs.declared.Device.{Device}
 use Rattle.device.proofs.Laws.{device_parts, state_below, other_at_zero, selected_is}
-use Rattle.dictionary.specs.Aborts.{TOO_HIGH, TOO_LOW}
+use Rattle.dictionary.specs.Aborts.{code_of}
 use Rattle.dictionary.specs.Accept.{Origin}
 use Rattle.dictionary.specs.Named.{Named, value, byte, nothing, named}
 use Rattle.dictionary.specs.Values.{value_at, written_to}
-use Rattle.dictionary.specs.Decide.{size_code, range_code, crosses, map_ruling, ruled, verdict_on, read_of, read_decision, write_of, write_decision, carried_out}
+use Rattle.dictionary.specs.Decide.{size_abort, range_abort, crosses, map_ruling, ruled, verdict_on, read_of, read_decision, write_of, write_decision, carried_out}
 use Rattle.dictionary.specs.declared.Decision.{Decision}
-use Rattle.dictionary.specs.declared.Decision.TheVariants.{Read as Reading, Abort as Aborting}
+use Rattle.dictionary.specs.declared.Decision.TheVariants.{Read as Reading}
+use Rattle.dictionary.specs.declared.Abort.{Abort}
+use Rattle.dictionary.specs.declared.Abort.TheVariants.{UnknownCommand, NoObject, NoSubIndex, ReadOnlyEntry, TooHigh, TooLow, LimitsCrossed, LockedNow}
 use Rattle.dictionary.proofs.Decisions.{others_unchanged}
 use Rattle.dictionary.proofs.Laws.{InTable, named_in_table}
 use Rattle.dictionary.proofs.Written.{to_selection, to_control, written_is_read, written_aside, written_sound}
@@ -41,9 +42,9 @@ use Rattle.sdo.specs.Acknowledged.{Acknowledged}
 use Rattle.sdo.specs.Frames.{request_of, asks_of, frame_of, read_reply, replied_in}
 use Rattle.sdo.specs.Serve.{decision_on, outcome_of, served}
 use Rattle.sdo.specs.declared.Request.{Request}
-use Rattle.sdo.specs.declared.Asks.TheVariants.{Reads, Writes, Unknown}
+use Rattle.sdo.specs.declared.Asks.TheVariants.{Reads, Writes}
 use Rattle.sdo.specs.declared.Outcome.{Outcome}
-use Rattle.sdo.specs.declared.Outcome.TheVariants.{Read, Written, Abort}
+use Rattle.sdo.specs.declared.Outcome.TheVariants.{Read, Written, Abort as Aborted, Refused}
 use Rattle.sdo.proofs.Promises.{abort_unchanged, read_unchanged, acknowledged}
 use Rattle.pdo.specs.Send.{number_read}
 use Rattle.promises.specs.Library.{Told, holding, Refusal, ◌when◌, first}
@@ -87,7 +88,7 @@ transmit_ruling d place sub x e h =
     let back : place - TRANSMIT_MAP ≡ sub = omega arith in
     rw (le-ltb place RECEIVE_MAP (omega arith), le-ltb place TRANSMIT_MAP (omega arith), lt-ltb place SET_POINT (omega arith), back)
 
-no_ruling : (d : Device) (place : ℕ) (x : ℤ) → not (place below RECEIVE_MAP || not (place below SET_POINT)) ≡ false → map_ruling d.maps place x ≡ Accepted
+no_ruling : (d : Device) (place : ℕ) (x : ℤ) → not (place below RECEIVE_MAP || not (place below SET_POINT)) ≡ false → map_ruling d.maps place x ≡ Ok tt
 unfolding map_ruling
 no_ruling d place x h =
     by_cases (place below RECEIVE_MAP) (λ e. rw e)
@@ -99,7 +100,7 @@ no_ruling d place x h =
 abbrev WRITES : List ℕ
 WRITES = 0x2F ∷ 0x2B ∷ 0x27 ∷ 0x23 ∷ []
 
-asks_is : (c : ℕ) → asks_of c ≡ (if c is 0x40 then Reads else if c among WRITES then Writes (sent_by c) else Unknown)
+asks_is : (c : ℕ) → asks_of c ≡ (if c is 0x40 then Ok Reads else if c among WRITES then Ok (Writes (sent_by c)) else Err UnknownCommand)
 unfolding asks_of sent_by
 asks_is c =
     by_cases (c is 0x40) (λ r. rw r)
@@ -108,24 +109,70 @@ asks_is c =
     (λ f. by_cases (c is 0x27) (λ g. rw (r, e, f, g))
     (λ g. by_cases (c is 0x23) (λ h. rw (r, e, f, g, h)) (λ h. rw (r, e, f, g, h))))))
 
+-- ---- an outcome as it is told, an abort by its code
+
+pub data Came : Type 0 where
+  gave : ℕ → ℕ → Came
+  done : Came
+  aborted : ℕ → Came
+  refused : Came
+
+abbrev pub came : Outcome → Came
+came (Read size number) = gave size number
+came Written = done
+came (Aborted abort) = aborted (code_of abort)
+came (Refused _) = refused
+
+came_gave : (o : Outcome) {size number : ℕ} → came o ≡ gave size number → o ≡ Read size number
+came_gave (Read size number) e = cc
+came_gave Written e = apart (cc)
+came_gave (Aborted abort) e = apart (cc)
+came_gave (Refused _) e = apart (cc)
+
+came_done : (o : Outcome) → came o ≡ done → o ≡ Written
+came_done (Read size number) e = apart (cc)
+came_done Written e = refl
+came_done (Aborted abort) e = apart (cc)
+came_done (Refused _) e = apart (cc)
+
+came_aborted : (o : Outcome) {code : ℕ} → came o ≡ aborted code → (abort : Abort) × (o ≡ Aborted abort)
+came_aborted (Read size number) e = apart (cc)
+came_aborted Written e = apart (cc)
+came_aborted (Aborted abort) e = (abort, refl)
+came_aborted (Refused _) e = apart (cc)
+
+-- the room after its reply
+abbrev replied_by : Came → Request → List ℕ → List ℕ
+replied_by (gave size number) q room = frame_of (read_reply size) q.index q.sub number ++ drop 8 room
+replied_by done q room = frame_of 0x60 q.index q.sub 0 ++ drop 8 room
+replied_by (aborted code) q room = frame_of 0x80 q.index q.sub code ++ drop 8 room
+replied_by refused q room = room
+
+replied_is : (o : Outcome) (q : Request) (room : List ℕ) → replied_in o q room ≡ replied_by (came o) q room
+unfolding replied_in
+replied_is (Read size number) q room = refl
+replied_is Written q room = refl
+replied_is (Aborted abort) q room = refl
+replied_is (Refused _) q room = refl
+
 -- ---- one test, one line
 
 -- the first of a list, or what is due
-abbrev pub first_or : List Refusal → Outcome → Outcome
-first_or list due = if not (first list is 0) then Abort (first list) else due
+abbrev pub first_or : List Refusal → Came → Came
+first_or list due = if not (first list is 0) then aborted (first list) else due
 
-record Meets (v : Decision) (list : List Refusal) (due : Outcome) : Type 0 where
-  outcome : outcome_of v ≡ first_or list due
+record Meets (v : Result Decision Abort) (list : List Refusal) (due : Came) : Type 0 where
+  outcome : came (outcome_of v) ≡ first_or list due
 
 step :
-    {t u : Bool} {code : ℕ} {rest : Decision} {list : List Refusal} {due : Outcome} → (code is 0) ≡ false → t ≡ u →
-    (t ≡ false → Meets rest list due) → Meets (cond t (Aborting code) rest) (code when u ∷ list) due
-step {t} {u} {code} n e f = record { outcome = rw (← e) (by_cases t (λ k. rw (k, n)) (λ k. rw k (f k).outcome)) }
+    (abort : Abort) {t u : Bool} {rest : Result Decision Abort} {list : List Refusal} {due : Came} → (code_of abort is 0) ≡ false → t ≡ u →
+    (t ≡ false → Meets rest list due) → Meets (cond t (Err abort) rest) (code_of abort when u ∷ list) due
+step abort {t} {u} n e f = record { outcome = rw (← e) (by_cases t (λ k. rw (k, n)) (λ k. rw k (f k).outcome)) }
 
 -- place 5 has a line for each way
 size_step :
-    (has sent : ℕ) {rest : Decision} {list : List Refusal} {due : Outcome} → Meets rest list due →
-    Meets (cond (not (has is sent)) (Aborting (size_code has sent)) rest) (0x06070012 when (has below sent) ∷ 0x06070013 when (sent below has) ∷ list) due
+    (has sent : ℕ) {rest : Result Decision Abort} {list : List Refusal} {due : Came} → Meets rest list due →
+    Meets (cond (not (has is sent)) (Err (size_abort has sent)) rest) (0x06070012 when (has below sent) ∷ 0x06070013 when (sent below has) ∷ list) due
 size_step has sent m =
     by_less has sent
     (λ h. record { outcome = rw (ne_eqb has sent (λ e. omega arith), lt-ltb has sent h) })
@@ -135,8 +182,8 @@ size_step has sent m =
 
 -- place 6 one for a choice and one for each way
 range_step :
-    (choice high low : Bool) {rest : Decision} {list : List Refusal} {due : Outcome} → Meets rest list due →
-    Meets (cond high (Aborting (range_code choice TOO_HIGH)) (cond low (Aborting (range_code choice TOO_LOW)) rest))
+    (choice high low : Bool) {rest : Result Decision Abort} {list : List Refusal} {due : Came} → Meets rest list due →
+    Meets (cond high (Err (range_abort choice TooHigh)) (cond low (Err (range_abort choice TooLow)) rest))
     (0x06090030 when (choice && (high || low)) ∷ 0x06090031 when high ∷ 0x06090032 when low ∷ list) due
 range_step true true low m = record { outcome = refl }
 range_step false true low m = record { outcome = refl }
@@ -148,7 +195,7 @@ range_step false false false m = record { outcome = m.outcome }
 -- the rules of a map, as it is told
 map_step :
     {t : Told} {index : ℕ} {m : Map} → MapTold t index m → (sub n which place : ℕ) (x : ℤ) →
-    Meets (ruled (ruling_on (Sdo.mappable index) m sub n) which place x) (map_aborts t index sub n) Written
+    Meets (ruled (ruling_on (Sdo.mappable index) m sub n) which place x) (map_aborts t index sub n) done
 unfolding ruling_on is_right each_mapped map_aborts
 map_step {t} {index} {m} told sub n which place x =
     by_cases (sub is 0)
@@ -165,9 +212,9 @@ map_step {t} {index} {m} told sub n which place x =
     (λ f. record { outcome = rw (e, told.count, f) }))
 
 -- what a request comes to
-abbrev pub outcome_in : Told → ℕ → ℕ → ℕ → ℕ → Outcome
+abbrev pub outcome_in : Told → ℕ → ℕ → ℕ → ℕ → Came
 outcome_in t c index sub n =
-    first_or (aborts t c index sub n) (if c is 0x40 then Read (line_at index sub).kind.bytes (number_at t index sub) else Written)
+    first_or (aborts t c index sub n) (if c is 0x40 then gave (line_at index sub).kind.bytes (number_at t index sub) else done)
 
 -- ---- what is told of a line
 
@@ -207,7 +254,7 @@ module _ {d : Device} (s : Sound d) where
   -- what a read tells
   pub read_told :
       (index sub : ℕ) → has_entry index sub ≡ true →
-      read_decision d index sub ≡ Reading (line_at index sub).kind.bytes (number_at (told_of d) index sub)
+      read_decision d index sub ≡ Ok (Reading (line_at index sub).kind.bytes (number_at (told_of d) index sub))
   unfolding read_decision read_of
   read_told index sub h =
       by_entry index sub h
@@ -239,7 +286,7 @@ module _ {d : Device} (s : Sound d) where
     map_told :
         (x : ℤ) →
         Meets (ruled (map_ruling d.maps place x) which place x)
-        (if l.index among 0x1600 ∷ 0x1A00 ∷ [] then map_aborts (plain_told d) l.index l.sub (nat_abs x) else []) Written
+        (if l.index among 0x1600 ∷ 0x1A00 ∷ [] then map_aborts (plain_told d) l.index l.sub (nat_abs x) else []) done
     map_told x =
         by_cases (l.index is 0x1600)
         (λ e. rw (receive_ruling d place l.sub x (a.receive e) (a.map_sub (rw e)), eqb-true l.index 0x1600 e)
@@ -251,51 +298,51 @@ module _ {d : Device} (s : Sound d) where
         let none : (l.index among 0x1600 ∷ 0x1A00 ∷ []) ≡ false = rw (e, f) in
         rw (no_ruling d place x (sym a.mapped ∙ none), e, f) (record { outcome = refl })))
 
-    verdict : (size : ℕ) (x : ℤ) → Meets (verdict_on d which place size x) (write_aborts (plain_told d) l size x) Written
+    verdict : (size : ℕ) (x : ℤ) → Meets (verdict_on d which place size x) (write_aborts (plain_told d) l size x) done
     unfolding verdict_on write_aborts
     verdict size x =
         rw (a.bytes, a.low, a.high, a.choice)
-        (step refl (sym a.read_only)
+        (step ReadOnlyEntry refl (sym a.read_only)
         (λ w. size_step (row_at place).size size
         (range_step (row_at place).choice ((row_at place).high <? x) (x <? (row_at place).low)
-        (step refl (cross_told x)
-        (λ _. step refl (a.lock (not-false _ w) d.state (state_below d.state (device_parts s).known))
+        (step LimitsCrossed refl (cross_told x)
+        (λ _. step LockedNow refl (a.lock (not-false _ w) d.state (state_below d.state (device_parts s).known))
         (λ _. map_told x))))))
 
   -- ---- a request
 
   by_listed :
-      (index sub : ℕ) (decide : Named → Decision) (rest : List Refusal) (due : Outcome) → ((code : ℕ) → decide (nothing code) ≡ Aborting code) →
+      (index sub : ℕ) (decide : Named → Result Decision Abort) (rest : List Refusal) (due : Came) → ((abort : Abort) → decide (nothing abort) ≡ Err abort) →
       (has_entry index sub ≡ true → Meets (decide (named index sub)) rest due) →
       Meets (decide (named index sub)) (0x06020000 when not (has_entry index 0) ∷ 0x06090011 when not (has_entry index sub) ∷ rest) due
   by_listed index sub decide rest due n f =
       by_cases (has_entry index 0)
       (λ h. by_cases (has_entry index sub)
       (λ e. record { outcome = rw (h, e) (f e).outcome })
-      (λ e. record { outcome = rw (h, e, no_entry index sub h e, n 0x06090011) }))
-      (λ h. record { outcome = rw (h, no_object index sub h, n 0x06020000) })
+      (λ e. record { outcome = rw (h, e, no_entry index sub h e, n NoSubIndex) }))
+      (λ h. record { outcome = rw (h, no_object index sub h, n NoObject) })
 
   read_meets :
       (index sub : ℕ) →
       Meets (read_decision d index sub) (0x06020000 when not (has_entry index 0) ∷ 0x06090011 when not (has_entry index sub) ∷ [])
-      (Read (line_at index sub).kind.bytes (number_at (told_of d) index sub))
+      (gave (line_at index sub).kind.bytes (number_at (told_of d) index sub))
   unfolding read_decision read_of
-  read_meets index sub = by_listed index sub (read_of d) [] _ (λ code. refl) (λ h. record { outcome = ap outcome_of (read_told index sub h) })
+  read_meets index sub = by_listed index sub (read_of d) [] _ (λ abort. refl) (λ h. record { outcome = ap (λ (v : Result Decision Abort). came (outcome_of v)) (read_told index sub h) })
 
   write_meets :
       (index sub size n : ℕ) →
       Meets (write_decision d index sub size n)
       (0x06020000 when not (has_entry index 0)
       ∷ 0x06090011 when not (has_entry index sub)
-      ∷ write_aborts (told_of d) (line_at index sub) size (stands_for (line_at index sub).kind n)) Written
+      ∷ write_aborts (told_of d) (line_at index sub) size (stands_for (line_at index sub).kind n)) done
   unfolding write_decision write_of
   write_meets index sub size n =
-      by_listed index sub (write_of d size n) _ _ (λ code. refl)
+      by_listed index sub (write_of d size n) _ _ (λ abort. refl)
       (λ h. by_entry index sub h
       (λ which place e o a. rw (e, stands_is a n, sound_told s) (verdict o a size _))
       (λ number e b. record { outcome = unfold write_aborts in rw (e, b.read_only) }))
 
-  pub outcome_told : (q : Request) → (served d q).outcome ≡ outcome_in (told_of d) q.command q.index q.sub q.number
+  pub outcome_told : (q : Request) → came (served d q).outcome ≡ outcome_in (told_of d) q.command q.index q.sub q.number
   unfolding served decision_on aborts
   outcome_told q =
       by_cases (q.command is 0x40) (λ r. rw (asks_is q.command, r) (read_meets q.index q.sub).outcome)
@@ -321,7 +368,7 @@ module _ {d : Device} (s : Sound d) {index sub size n which place : ℕ} {x : �
           (λ l. rw (lt-ltb k SELECTION l) (others_unchanged s o v k h (omega arith) (other v k e l)))
           (λ l. rw (le-ltb k SELECTION l))
       by (byte number) e h = refl
-      by (nothing code) e h = refl
+      by (nothing abort) e h = refl
 
   held_put : place < SELECTION → (i j : ℕ) → held_by after i j ≡ put index sub x (held_by d) i j
   held_put h i j =
@@ -407,10 +454,11 @@ module _ {d : Device} (s : Sound d) where
   served_told q =
       by_cases (first (aborts (told_of d) q.command q.index q.sub q.number) is 0)
       (λ z. by_cases (q.command is 0x40)
-      (λ r. rw r (ap told_of (read_unchanged d q _ _ (rw (z, r) at (outcome_told s q)))))
-      (λ r. rw (r, z) (acknowledged_told q (acknowledged d q (rw (z, r) at (outcome_told s q))))))
+      (λ r. rw r (ap told_of (read_unchanged d q _ _ (came_gave _ (rw (z, r) at (outcome_told s q))))))
+      (λ r. rw (r, z) (acknowledged_told q (acknowledged d q (came_done _ (rw (z, r) at (outcome_told s q)))))))
       (λ z.
-      let kept = ap told_of (abort_unchanged d q _ (rw z at (outcome_told s q))) in
+      let abort = came_aborted _ (rw z at (outcome_told s q)) in
+      let kept = ap told_of (abort_unchanged d q abort.0 abort.1) in
       by_cases (q.command is 0x40) (λ r. rw r kept) (λ r. rw (r, z) kept))
 
   pub write_told :
@@ -420,7 +468,7 @@ module _ {d : Device} (s : Sound d) where
   write_told c index sub n h =
       let q : Request = record { command = c; sub = sub; index = index; number = n } in
       let r : (c is 0x40) ≡ false = by_cases (c is 0x40) (λ e. clash (rw (eqb-true c 0x40 e) at h) refl) (λ e. e) in
-      let asked : asks_of c ≡ Writes (sent_by c) = asks_is c ∙ rw (r, h) in
+      let asked : asks_of c ≡ Ok (Writes (sent_by c)) = asks_is c ∙ rw (r, h) in
       rw asked at (served_told q)
 
   pub request_told :
@@ -433,7 +481,7 @@ module _ {d : Device} (s : Sound d) where
       (q : Request) (room : List ℕ) → replied_in (served d q).outcome q room ≡ reply q.command q.index q.sub q.number (told_of d) ++ drop 8 room
   unfolding replied_in frame_of read_reply reply
   replied_told q room =
-      rw (outcome_told s q)
+      rw (replied_is (served d q).outcome q room, outcome_told s q)
       (by_cases (first (aborts (told_of d) q.command q.index q.sub q.number) is 0)
       (λ z. by_cases (q.command is 0x40) (λ r. rw (z, r, four_low)) (λ r. rw (z, r, four_low)))
       (λ z. rw (z, four_low)))

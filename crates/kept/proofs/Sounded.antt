@@ -21,7 +21,7 @@ use Rattle.objects.specs.Places.{UPPER_LIMIT, LOWER_LIMIT, POSITION, PRESSURE}
 use Rattle.objects.specs.Table.{objects, row_at, lies_in, InRange}
 use Rattle.objects.specs.Lookup.{Object, index_of}
 use Rattle.objects.proofs.Rules.{within_lies, receive_map, transmit_map}
-use Rattle.block.specs.Block.{at, setting}
+use Rattle.block.specs.Block.{setting}
 use Rattle.block.specs.Sound as Blocks
 use Rattle.block.proofs.Sound.{block_parts, block_from_parts}
 use Rattle.mapping.specs.Maps.{ENTRIES, RECEIVABLE, SENDABLE}
@@ -80,7 +80,7 @@ module _ {d : Device} (s : Sound d) where
       rw (h, v, g.low, g.high) (within_lies (held_within which place k)))
       (λ h. rw h)
   line_fits l (byte number) e a = rw (is_byte l number a).read_only
-  line_fits l (nothing code) e a = clash a refl
+  line_fits l (nothing abort) e a = clash a refl
 
   lines_fit : (lines : List Line) → of_all (λ l. agrees l (named l.index l.sub)) lines ≡ true → in_range lines (held_by d) ≡ true
   unfolding in_range

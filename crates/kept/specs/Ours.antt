@@ -70,7 +70,7 @@ answer_of (search bytes tag) d =
 abbrev pub held_at : Device → Named → ℤ
 held_at d (value which place) = if place below SELECTION then value_at d which place else pos 0
 held_at d (byte number) = pos 0
-held_at d (nothing code) = pos 0
+held_at d (nothing abort) = pos 0
 
 -- every array has its length, as of each device that Rust or C has
 abbrev pub is_whole : Device → Bool

@@ -1,5 +1,5 @@
 -- What stands at a sub-index after a write; a table of three by its places; the bytes of one entry more.
-use mathlib.Core.Bool.{Bool, true, false, ◌||◌}
+use mathlib.Core.Bool.{Bool, true, false, ◌&&◌, ◌||◌}
 use mathlib.Core.List.{List, [], ◌∷◌}
 use mathlib.Core.Logic.{◌≢◌}
 use mathlib.Core.Path.{◌≡◌, refl, sym, ◌∙◌}
@@ -8,7 +8,9 @@ use native.Mathlib.Omega.{arith}
 use borrow.Author.Tests.{eqb-true, eqb-false, ne_eqb}
 use lib.ListN.{length, get_or, take}
 use lib.Seq.{get_or-set_same, get_or-set_other}
-use Rattle.integers.specs.Words.{◌is◌, ◌among◌}
+use Rattle.std.specs.List.{list_all, enumerate_from}
+use Rattle.std.proofs.lemmas.List.Folds.{list_all_more}
+use Rattle.integers.specs.Words.{each, ◌is◌, ◌among◌}
 use Rattle.integers.proofs.Cases.{by_cases, clash}
 use Rattle.mapping.specs.Maps.{bytes_of, stands_at, with_at, length_of}
 use Rattle.mapping.specs.declared.Map.{Map}
@@ -59,6 +61,33 @@ among_third n (a ∷ []) e h = absurd (omega arith)
 among_third n (a ∷ b ∷ []) e h = absurd (omega arith)
 among_third n (a ∷ b ∷ c ∷ []) e h = third_of_three (n is a) (n is b) (n is c) h
 among_third n (a ∷ b ∷ c ∷ d ∷ l) e h = absurd (omega arith)
+
+-- ---- tests of entries in a row
+
+-- the test of the first n is the test of each below n
+pub all_of_first : (test : ℕ → Bool) (entries : List ℕ) (n : ℕ) → n ≤ length entries → list_all test (take n entries) ≡ each n (λ k. test (get_or entries k 0))
+unfolding each
+all_of_first test entries zero h = refl
+all_of_first test entries (suc n) h =
+    let next : n + 1 ≡ suc n = omega arith in
+    rw next at (list_all_more test entries n 0 (omega arith)) ∙ rw (all_of_first test entries n (omega arith)) refl
+
+in_turn : (a b c d : Bool) → (a && (b && (c && (d && true)))) ≡ (((a && b) && c) && d)
+in_turn true true true true = refl
+in_turn true true true false = refl
+in_turn true true false d = refl
+in_turn true false c d = refl
+in_turn false b c d = refl
+
+-- and the test of four with their places is the test of each place
+pub all_of_four : (test : ℕ → ℕ → Bool) (entries : List ℕ) → length entries ≡ 4 → list_all (λ (p : ℕ × ℕ). test p.0 p.1) (enumerate_from 0 entries) ≡ each 4 (λ k. test k (get_or entries k 0))
+unfolding each
+all_of_four test [] e = absurd (omega arith)
+all_of_four test (a ∷ []) e = absurd (omega arith)
+all_of_four test (a ∷ b ∷ []) e = absurd (omega arith)
+all_of_four test (a ∷ b ∷ c ∷ []) e = absurd (omega arith)
+all_of_four test (a ∷ b ∷ c ∷ d ∷ []) e = in_turn (test 0 a) (test 1 b) (test 2 c) (test 3 d)
+all_of_four test (a ∷ b ∷ c ∷ d ∷ f ∷ l) e = absurd (omega arith)
 
 -- ---- lengths
 

@@ -1,8 +1,7 @@
 -- A sound map by its parts, both ways. The fresh maps are sound, and every write that is allowed keeps a map sound: what it would count or let stand it has tested.
-use Rattle.std.specs.Prelude.{if◌then◌else◌}
+use Rattle.std.specs.Prelude.{Result, Ok, Err, if◌then◌else◌}
 use mathlib.Core.Bool.{Bool, true, false, not, cond, ◌&&◌, ◌||◌}
 use mathlib.Core.List.{List, [], ◌∷◌}
-use mathlib.Core.Logic.{◌≢◌}
 use mathlib.Core.Path.{◌≡◌, refl, ◌∙◌}
 use Prim.Native.Nat.{ℕ, zero, suc, ◌+◌, ◌*◌, ◌-◌, ◌≤◌, ◌<◌}
 use native.Mathlib.Omega.{arith}
@@ -18,8 +17,8 @@ use Rattle.mapping.specs.Rules.{each_mapped, is_right, ruling_on}
 use Rattle.mapping.specs.Sound.{may_stand, sound_map, sound_maps}
 use Rattle.mapping.specs.declared.Map.{Map}
 use Rattle.mapping.specs.declared.Maps.{Maps}
-use Rattle.mapping.specs.declared.Ruling.{Ruling}
-use Rattle.mapping.specs.declared.Ruling.TheVariants.{Accepted, WhileCounted, AboveFour, NotMappable}
+use Rattle.mapping.specs.declared.Misfit.{Misfit}
+use Rattle.mapping.specs.declared.Misfit.TheVariants.{WhileCounted, AboveFour, NotMappable}
 use Rattle.mapping.proofs.Laws.{length_more}
 
 -- ---- the parts
@@ -72,9 +71,9 @@ module _ (mappable : List ℕ) (count k entry : ℕ) (s : may_stand mappable cou
 
 -- ---- a write that is allowed
 
-passed : (t : Bool) (r rest : Ruling) → r ≢ Accepted → cond t r rest ≡ Accepted → (t ≡ false) × (rest ≡ Accepted)
-passed true r rest n e = absurd (n e)
-passed false r rest n e = (refl, e)
+passed : (t : Bool) (why : Misfit) (rest : Result (Unit {0}) Misfit) → cond t (Err why) rest ≡ Ok tt → (t ≡ false) × (rest ≡ Ok tt)
+passed true why rest e = apart (cc)
+passed false why rest e = (refl, e)
 
 -- what each test has let through
 pub record Passed (mappable : List ℕ) (m : Map) (sub number : ℕ) : Type 0 where
@@ -82,19 +81,19 @@ pub record Passed (mappable : List ℕ) (m : Map) (sub number : ℕ) : Type 0 wh
   pub few : (sub is 0 && ENTRIES below number) ≡ false
   pub right : is_right mappable m sub number ≡ true
 
-pub allowed : (mappable : List ℕ) (m : Map) (sub number : ℕ) → ruling_on mappable m sub number ≡ Accepted → Passed mappable m sub number
+pub allowed : (mappable : List ℕ) (m : Map) (sub number : ℕ) → ruling_on mappable m sub number ≡ Ok tt → Passed mappable m sub number
 unfolding ruling_on
 allowed mappable m sub number e =
-    let a = passed (not (sub is 0) && not (m.count is 0)) WhileCounted _ (λ f. apart (cc)) e in
-    let b = passed (sub is 0 && ENTRIES below number) AboveFour _ (λ f. apart (cc)) a.1 in
-    let c = passed (not (is_right mappable m sub number)) NotMappable _ (λ f. apart (cc)) b.1 in
+    let a = passed (not (sub is 0) && not (m.count is 0)) WhileCounted _ e in
+    let b = passed (sub is 0 && ENTRIES below number) AboveFour _ a.1 in
+    let c = passed (not (is_right mappable m sub number)) NotMappable _ b.1 in
     record { free = a.0; few = b.0; right = not-false _ c.0 }
 
 -- ---- it keeps a map sound
 
 module _ (mappable : List ℕ) (z : NoZero mappable) {m : Map} (p : Parts mappable m) where
   -- the number of entries: those that it counts may be mapped, and the others stood before
-  count_kept : (number : ℕ) → ruling_on mappable m 0 number ≡ Accepted → Parts mappable (with_at 0 number m)
+  count_kept : (number : ℕ) → ruling_on mappable m 0 number ≡ Ok tt → Parts mappable (with_at 0 number m)
   unfolding with_at is_right each_mapped may_stand
   count_kept number e =
       let a = allowed mappable m 0 number e in
@@ -110,7 +109,7 @@ module _ (mappable : List ℕ) (z : NoZero mappable) {m : Map} (p : Parts mappab
       uncounted number k l s = by_cases (entry_of m k is 0) (λ e. rw (e, le-ltb k number l)) (λ e. rw e (rw e at s))
 
   -- an entry: none is counted, and it is zero or may be mapped
-  entry_kept : (sub number : ℕ) → 0 < sub → sub ≤ ENTRIES → ruling_on mappable m sub number ≡ Accepted → Parts mappable (with_at sub number m)
+  entry_kept : (sub number : ℕ) → 0 < sub → sub ≤ ENTRIES → ruling_on mappable m sub number ≡ Ok tt → Parts mappable (with_at sub number m)
   unfolding with_at is_right may_stand
   entry_kept sub number l h e =
       let a = allowed mappable m sub number e in
@@ -129,13 +128,13 @@ module _ (mappable : List ℕ) (z : NoZero mappable) {m : Map} (p : Parts mappab
       fits : (k : ℕ) → m.count ≡ 0 → (number is 0 || number among mappable) ≡ true → may_stand mappable m.count k number ≡ true
       fits k none s = by_cases (number is 0) (λ e. rw (e, none, le-ltb k 0 (omega arith))) (λ e. rw e (rw e at s))
 
-pub write_kept : (mappable : List ℕ) → NoZero mappable → (m : Map) (sub number : ℕ) → sound_map mappable m ≡ true → sub ≤ ENTRIES → ruling_on mappable m sub number ≡ Accepted → sound_map mappable (with_at sub number m) ≡ true
+pub write_kept : (mappable : List ℕ) → NoZero mappable → (m : Map) (sub number : ℕ) → sound_map mappable m ≡ true → sub ≤ ENTRIES → ruling_on mappable m sub number ≡ Ok tt → sound_map mappable (with_at sub number m) ≡ true
 write_kept mappable z m zero number s h e = map_from_parts (count_kept mappable z (map_parts s) number e)
 write_kept mappable z m (suc j) number s h e = map_from_parts (entry_kept mappable z (map_parts s) (suc j) number (omega arith) h e)
 
 -- ---- what becomes of a write, by its sub-index
 
-pub rule_entry : (mappable : List ℕ) (m : Map) (k n : ℕ) → 1 ≤ k → ruling_on mappable m k n ≡ (if not (m.count is 0) then WhileCounted else if n is 0 || n among mappable then Accepted else NotMappable)
+pub rule_entry : (mappable : List ℕ) (m : Map) (k n : ℕ) → 1 ≤ k → ruling_on mappable m k n ≡ (if not (m.count is 0) then Err WhileCounted else if n is 0 || n among mappable then Ok tt else Err NotMappable)
 unfolding ruling_on is_right
 rule_entry mappable m k n h =
     let later : (k is 0) ≡ false = ne_eqb k 0 (λ e. omega arith) in
@@ -151,7 +150,7 @@ mapped_or_zero mappable z {m} p k h =
     (λ e. let same = eqb-true (entry_of m k) 0 e in rw same z)
     (λ e. rw e (rw e at (p.stands k h)))
 
-pub rule_count : (mappable : List ℕ) (m : Map) (n : ℕ) → ruling_on mappable m 0 n ≡ (if 4 below n then AboveFour else if each n (λ k. entry_of m k among mappable) then Accepted else NotMappable)
+pub rule_count : (mappable : List ℕ) (m : Map) (n : ℕ) → ruling_on mappable m 0 n ≡ (if 4 below n then Err AboveFour else if each n (λ k. entry_of m k among mappable) then Ok tt else Err NotMappable)
 unfolding ruling_on is_right each_mapped
 rule_count mappable m n =
     by_cases (each n (λ k. entry_of m k among mappable))
@@ -168,12 +167,12 @@ pub maps_both : (maps : Maps) → sound_map RECEIVABLE maps.receive ≡ true →
 unfolding sound_maps
 maps_both maps r t = and_both r t
 
-pub receive_kept : (maps : Maps) (sub number : ℕ) → sound_maps maps ≡ true → sub ≤ ENTRIES → ruling_on RECEIVABLE maps.receive sub number ≡ Accepted → sound_maps (with_receive (with_at sub number maps.receive) maps) ≡ true
+pub receive_kept : (maps : Maps) (sub number : ℕ) → sound_maps maps ≡ true → sub ≤ ENTRIES → ruling_on RECEIVABLE maps.receive sub number ≡ Ok tt → sound_maps (with_receive (with_at sub number maps.receive) maps) ≡ true
 receive_kept maps sub number s h e =
     let both = maps_split maps s in
     maps_both _ (write_kept RECEIVABLE refl maps.receive sub number both.0 h e) both.1
 
-pub transmit_kept : (maps : Maps) (sub number : ℕ) → sound_maps maps ≡ true → sub ≤ ENTRIES → ruling_on SENDABLE maps.transmit sub number ≡ Accepted → sound_maps (with_transmit (with_at sub number maps.transmit) maps) ≡ true
+pub transmit_kept : (maps : Maps) (sub number : ℕ) → sound_maps maps ≡ true → sub ≤ ENTRIES → ruling_on SENDABLE maps.transmit sub number ≡ Ok tt → sound_maps (with_transmit (with_at sub number maps.transmit) maps) ≡ true
 transmit_kept maps sub number s h e =
     let both = maps_split maps s in
     maps_both _ both.0 (write_kept SENDABLE refl maps.transmit sub number both.1 h e)

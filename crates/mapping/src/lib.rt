@@ -24,10 +24,9 @@ pub struct Maps {
     pub transmit: Map,
 }
 
-// What becomes of a write to a map.
+// Why a map does not take a write: an entry while sub 0 isn't 0, a sub 0 above 4, an object that may not be mapped.
 #[derive(Clone, Copy)]
-pub enum Ruling {
-    Accepted,
+pub enum Misfit {
     WhileCounted,
     AboveFour,
     NotMappable,
@@ -79,8 +78,7 @@ pub fn stands_at(map: Map, sub: usize) -> u32
     if sub == 0 {
         return map.count as u32;
     }
-    let entries = map.entries;
-    entries[sub - 1]
+    map.entries[sub - 1]
 }
 
 // The map with another number there.
@@ -89,31 +87,35 @@ pub fn with_at(map: Map, sub: usize, number: u32) -> Map
     requires { Fitting sub number }
     ensures { result ≡ with_at sub number map }
 {
-    let mut other = map;
     if sub == 0 {
-        other.count = number as u8;
-    } else {
-        other.entries[sub - 1] = number;
+        return Map {
+            count: number as u8,
+            ..map
+        };
     }
-    other
+    let mut entries = map.entries;
+    entries[sub - 1] = number;
+    Map { entries, ..map }
 }
 
 // The maps with another receive map.
 pub fn with_receive(maps: Maps, map: Map) -> Maps
     ensures { result ≡ with_receive map maps }
 {
-    let mut other = maps;
-    other.receive = map;
-    other
+    Maps {
+        receive: map,
+        ..maps
+    }
 }
 
 // The maps with another transmit map.
 pub fn with_transmit(maps: Maps, map: Map) -> Maps
     ensures { result ≡ with_transmit map maps }
 {
-    let mut other = maps;
-    other.transmit = map;
-    other
+    Maps {
+        transmit: map,
+        ..maps
+    }
 }
 
 // How many bytes the PDO of a map has.
@@ -122,12 +124,9 @@ pub fn length(map: Map) -> usize
     requires { Few map.count }
     ensures { result ≡ map_length map }
 {
-    let entries = map.entries;
     let mut length = 0;
-    let mut k = 0;
-    while k < map.count as usize {
-        length += bytes_of(entries[k]) as usize;
-        k += 1;
+    for entry in &map.entries[..map.count as usize] {
+        length += bytes_of(*entry) as usize;
     }
     length
 }
@@ -135,20 +134,13 @@ pub fn length(map: Map) -> usize
 // ---- a write
 
 // Each of the first n entries may be mapped.
-#[tactic(auto, unfolding(crate::specs::Rules::each_mapped))]
 fn each_mapped(mappable: [u32; 3], map: Map, n: usize) -> bool
     requires { Few n }
     ensures { result ≡ each_mapped mappable map n }
 {
-    let entries = map.entries;
-    let mut k = 0;
-    while k < n {
-        if !is_among(mappable, entries[k]) {
-            return false;
-        }
-        k += 1;
-    }
-    true
+    map.entries[..n]
+        .iter()
+        .all(|entry| is_among(mappable, *entry))
 }
 
 // What the write would leave is right: every entry that sub 0 would count may be mapped; an entry is zero or may be mapped.
@@ -164,21 +156,21 @@ fn is_right(mappable: [u32; 3], map: Map, sub: usize, number: u32) -> bool
     }
 }
 
-// What becomes of a write of a number to a sub-index of a map, in the order of the aborts.
+// Whether a map takes a write of a number to a sub-index, in the order of the aborts.
 #[tactic(auto, unfolding(crate::specs::Rules::ruling_on))]
-pub fn ruling_on(mappable: [u32; 3], map: Map, sub: usize, number: u32) -> Ruling
+pub fn ruling_on(mappable: [u32; 3], map: Map, sub: usize, number: u32) -> Result<(), Misfit>
     ensures { result ≡ ruling_on mappable map sub number }
 {
     if sub != 0 && map.count != 0 {
-        return Ruling::WhileCounted;
+        return Err(Misfit::WhileCounted);
     }
     if sub == 0 && ENTRIES < number as usize {
-        return Ruling::AboveFour;
+        return Err(Misfit::AboveFour);
     }
     if !is_right(mappable, map, sub, number) {
-        return Ruling::NotMappable;
+        return Err(Misfit::NotMappable);
     }
-    Ruling::Accepted
+    Ok(())
 }
 
 // ---- soundness
@@ -203,15 +195,10 @@ fn is_sound_map(mappable: [u32; 3], map: Map) -> bool
     if ENTRIES < count {
         return false;
     }
-    let entries = map.entries;
-    let mut k = 0;
-    while k < ENTRIES {
-        if !may_stand(mappable, count, k, entries[k]) {
-            return false;
-        }
-        k += 1;
-    }
-    true
+    map.entries
+        .iter()
+        .enumerate()
+        .all(|(k, entry)| may_stand(mappable, count, k, *entry))
 }
 
 // Both maps, each with what may be mapped in its direction.
@@ -219,7 +206,5 @@ fn is_sound_map(mappable: [u32; 3], map: Map) -> bool
 pub fn is_sound(maps: Maps) -> bool
     ensures { result ≡ sound_maps maps }
 {
-    let receive = maps.receive;
-    let transmit = maps.transmit;
-    is_sound_map(RECEIVABLE, receive) && is_sound_map(SENDABLE, transmit)
+    is_sound_map(RECEIVABLE, maps.receive) && is_sound_map(SENDABLE, maps.transmit)
 }

@@ -1,4 +1,5 @@
 -- What the six objects of process data take and give: those that may be received take every value of two bytes in every state, and those that may be sent give two bytes.
+use Rattle.std.specs.Prelude.{Ok}
 use mathlib.Core.Bool.{Bool, true, false}
 use mathlib.Core.List.{List}
 use mathlib.Core.Path.{◌≡◌, refl, sym, ap, ◌∙◌}
@@ -33,19 +34,19 @@ use Rattle.pdo.specs.Receive.{data_in, acted}
 
 -- each object that may be received takes every value of two bytes, in every state
 module _ (d : Device) (n : ℕ) where
-  pub word_taken : write_decision d 0x6040 0 2 n ≡ Write POSITION CONTROL_WORD (value_of 2 false n)
+  pub word_taken : write_decision d 0x6040 0 2 n ≡ Ok (Write POSITION CONTROL_WORD (value_of 2 false n))
   unfolding write_decision named block_number place_of place_from entry_at record_entry objects write_of is_signed crosses is_locked map_ruling span
   word_taken =
       is_accepted {d = d} {which = POSITION} {place = CONTROL_WORD} {size = 2} {x = value_of 2 false n}
       (record { writable = refl; sized = refl; range = (value_typed 2 false n).range; uncrossed = refl; unlocked = refl; unruled = refl })
 
-  pub set_point_taken : write_decision d 0x6300 1 2 n ≡ Write POSITION SET_POINT (value_of 2 true n)
+  pub set_point_taken : write_decision d 0x6300 1 2 n ≡ Ok (Write POSITION SET_POINT (value_of 2 true n))
   unfolding write_decision named block_number place_of place_from entry_at record_entry objects write_of is_signed crosses is_locked map_ruling span
   set_point_taken =
       is_accepted {d = d} {which = POSITION} {place = SET_POINT} {size = 2} {x = value_of 2 true n}
       (record { writable = refl; sized = refl; range = (value_typed 2 true n).range; uncrossed = refl; unlocked = refl; unruled = refl })
 
-  pub hold_set_point_taken : write_decision d 0x6314 1 2 n ≡ Write POSITION HOLD_SET_POINT (value_of 2 true n)
+  pub hold_set_point_taken : write_decision d 0x6314 1 2 n ≡ Ok (Write POSITION HOLD_SET_POINT (value_of 2 true n))
   unfolding write_decision named block_number place_of place_from entry_at record_entry objects write_of is_signed crosses is_locked map_ruling span
   hold_set_point_taken =
       is_accepted {d = d} {which = POSITION} {place = HOLD_SET_POINT} {size = 2} {x = value_of 2 true n}
@@ -81,15 +82,15 @@ positive_number size n = rw (le-ltb n 0 (omega arith))
 
 -- what a read of each gives
 module _ (d : Device) where
-  pub status_read : read_decision d 0x6041 0 ≡ Read 2 (number_of 2 (pos (status_of d)))
+  pub status_read : read_decision d 0x6041 0 ≡ Ok (Read 2 (number_of 2 (pos (status_of d))))
   unfolding read_decision named block_number place_of place_from entry_at record_entry objects read_of value_at
   status_read = refl
 
-  pub error_read : read_decision d 0x604E 0 ≡ Read 2 (number_of 2 (pos d.error))
+  pub error_read : read_decision d 0x604E 0 ≡ Ok (Read 2 (number_of 2 (pos d.error)))
   unfolding read_decision named block_number place_of place_from entry_at record_entry objects read_of value_at
   error_read = refl
 
-  pub command_read : read_decision d 0x6310 1 ≡ Read 2 (number_of 2 (block_command POSITION d))
+  pub command_read : read_decision d 0x6310 1 ≡ Ok (Read 2 (number_of 2 (block_command POSITION d)))
   unfolding read_decision named block_number place_of place_from entry_at record_entry objects read_of value_at
   command_read = refl
 
@@ -100,7 +101,7 @@ module _ (d : Device) where
 -- it is a number of two bytes
 pub record ReadsTwo (d : Device) (entry : ℕ) : Type 0 where
   pub number : ℕ
-  pub decision : read_decision d (index_of entry) (sub_of entry) ≡ Read 2 number
+  pub decision : read_decision d (index_of entry) (sub_of entry) ≡ Ok (Read 2 number)
   pub small : number < 65536
 
 module _ (d : Device) (e : d.error < 65536) where

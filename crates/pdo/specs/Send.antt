@@ -1,17 +1,18 @@
 -- Wish 2 of document 02: the bytes of a PDO that is sent: the mapped values in order, low first.
-use Rattle.std.specs.Prelude.{List, [], ◌∷◌, ◌++◌, ℕ, take, drop}
+use Rattle.std.specs.Prelude.{List, [], ◌∷◌, ◌++◌, ℕ, take, drop, Result, Ok, Err}
 use Rattle.coding.specs.Bytes.{four_bytes}
 use Rattle.mapping.specs.Maps.{index_of, sub_of, bytes_of, length_of}
 use Rattle.device.specs.declared.Device.{Device}
 use Rattle.dictionary.specs.Decide.{read_decision}
 use Rattle.dictionary.specs.declared.Decision.{Decision}
-use Rattle.dictionary.specs.declared.Decision.TheVariants.{Read, Write, Abort}
+use Rattle.dictionary.specs.declared.Decision.TheVariants.{Read, Write}
+use Rattle.dictionary.specs.declared.Abort.{Abort}
 
 -- the number that a read gives; 0 where it gives none
-abbrev pub number_read : Decision → ℕ
-number_read (Read size number) = number
-number_read (Write which place x) = 0
-number_read (Abort code) = 0
+abbrev pub number_read : Result Decision Abort → ℕ
+number_read (Ok (Read size number)) = number
+number_read (Ok (Write which place x)) = 0
+number_read (Err abort) = 0
 
 -- the bytes of an entry: as many as its length, of what a read of its index and sub-index gives
 unfoldable pub sent_by : Device → ℕ → List ℕ

@@ -1,4 +1,5 @@
 -- What the calls promise together: a refusal leaves everything as it was, a sound device stays sound, and `control` is an SDO write of 6040h.
+use Rattle.std.specs.Prelude.{Ok}
 use mathlib.Core.Bool.{not}
 use mathlib.Core.List.{List}
 use mathlib.Core.Logic.{◌≢◌}
@@ -97,7 +98,7 @@ abbrev pub writing : ℕ → Request
 writing word = record { command = 0x2B; sub = 0; index = 0x6040; number = word }
 
 -- a control word may be written in every state
-word_accepted : (d : Device) (word : ℕ) → word < 65536 → verdict_on d POSITION CONTROL_WORD 2 (pos word) ≡ Write POSITION CONTROL_WORD (pos word)
+word_accepted : (d : Device) (word : ℕ) → word < 65536 → verdict_on d POSITION CONTROL_WORD 2 (pos word) ≡ Ok (Write POSITION CONTROL_WORD (pos word))
 unfolding objects crosses is_locked map_ruling
 word_accepted d word h =
     is_accepted {d = d} {which = POSITION} {place = CONTROL_WORD} {size = 2} {x = pos word} (record { writable = refl; sized = refl; range = omega (arith, ints); uncrossed = refl; unlocked = refl; unruled = refl })

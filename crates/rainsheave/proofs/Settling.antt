@@ -1,5 +1,5 @@
 -- What becomes of a request leads to its answer: a refusal to itself, and a decision, which writes only what can be written, to what it does.
-use Rattle.std.proofs.Common.{Ok, Err}
+use Rattle.std.proofs.Common.{Result, Ok, Err}
 use mathlib.Core.List.{List}
 use mathlib.Core.Path.{◌≡◌, refl, sym, ◌∙◌}
 use Prim.Native.Nat.{ℕ}
@@ -8,7 +8,8 @@ use Rattle.device.specs.declared.Device.{Device}
 use Rattle.device.specs.declared.refusal.Refusal.{Refusal}
 use Rattle.dictionary.specs.Asked as Asked
 use Rattle.dictionary.specs.declared.Decision.{Decision}
-use Rattle.dictionary.specs.declared.Decision.TheVariants.{Read, Write, Abort}
+use Rattle.dictionary.specs.declared.Decision.TheVariants.{Read, Write}
+use Rattle.dictionary.specs.declared.Abort.{Abort}
 use Rattle.sdo.specs.Frames.{request_of}
 use Rattle.sdo.specs.Serve.{answer, decision_on, outcome_of, answer_to, served}
 use Rattle.sdo.specs.declared.Answer.{Answer}
@@ -24,10 +25,10 @@ Leads (Err refusal) d a = a ≡ answer (Refused refusal) d
 Leads (Ok x) d a = Asked.Decided x × (a ≡ answer_to x d)
 
 -- a decision is no refusal
-pub settled_decision : (x : Decision) → settled_by (outcome_of x) x ≡ Ok x
-settled_decision (Read size number) = refl
-settled_decision (Write which place value) = refl
-settled_decision (Abort code) = refl
+pub settled_decision : (x : Result Decision Abort) → settled_by (outcome_of x) x ≡ Ok x
+settled_decision (Ok (Read size number)) = refl
+settled_decision (Ok (Write which place value)) = refl
+settled_decision (Err abort) = refl
 
 settled_leads : (d : Device) (request : List ℕ) (room : ℕ) → Leads (sdo_settled d request room) d (sdo_answer d request room)
 unfolding sdo_settled served
@@ -39,5 +40,5 @@ module _ {d : Device} {request before after : List ℕ} {r : Settled} (is : Sett
   pub refusal_leads : {refusal : Refusal} → r ≡ Err refusal → sdo_answer d request (length before) ≡ answer (Refused refusal) d
   refusal_leads e = rw (sym is.result ∙ e) at (settled_leads d request (length before))
 
-  pub decision_leads : {x : Decision} → r ≡ Ok x → Asked.Decided x × (sdo_answer d request (length before) ≡ answer_to x d)
+  pub decision_leads : {x : Result Decision Abort} → r ≡ Ok x → Asked.Decided x × (sdo_answer d request (length before) ≡ answer_to x d)
   decision_leads e = rw (sym is.result ∙ e) at (settled_leads d request (length before))

@@ -18,11 +18,12 @@ use Rattle.device.specs.declared.refusal.Refusal.{Refusal}
 use Rattle.device.specs.declared.refusal.Refusal.TheVariants.{Unsound, WrongLength, NoRoom, NoReplyDue, NoFault, NoImageRoom, NotFull, BadValue, NotDisabled, ShortPdo}
 use Rattle.device.specs.declared.Device.{Device}
 use Rattle.dictionary.specs.declared.Decision.{Decision}
+use Rattle.dictionary.specs.declared.Abort.{Abort}
 use Rattle.sdo.specs.Frames.{FRAME, request_of, replied_in}
 use Rattle.sdo.specs.Serve.{answer, decision_on, served}
 use Rattle.sdo.specs.declared.Answer.{Answer}
 use Rattle.sdo.specs.declared.Outcome.{Outcome}
-use Rattle.sdo.specs.declared.Outcome.TheVariants.{Read, Written, Abort, Refused}
+use Rattle.sdo.specs.declared.Outcome.TheVariants.{Read, Written, Abort as Aborted, Refused}
 use Rattle.pdo.specs.Receive.{received}
 use Rattle.pdo.specs.Send.{sent_in}
 use Rattle.rainsheave.specs.declared.Change.{Change}
@@ -33,7 +34,7 @@ Report = Result (Unit {0}) Refusal
 
 -- what becomes of an SDO request: it is decided, or refused
 abbrev pub Settled : Type 0
-Settled = Result Decision Refusal
+Settled = Result (Result Decision Abort) Refusal
 
 -- the paper's number of a report: 0 where it is done
 abbrev pub number_of_report : {A : Type 0} → Result A Refusal → ℕ
@@ -79,11 +80,11 @@ sdo_answer d request room =
     else served d (request_of request)
 
 -- what becomes of it before anything is carried out: the answer's refusal, or else what was decided
-abbrev pub settled_by : Outcome → Decision → Settled
+abbrev pub settled_by : Outcome → Result Decision Abort → Settled
 settled_by (Refused refusal) decision = Err refusal
 settled_by (Read size number) decision = Ok decision
 settled_by Written decision = Ok decision
-settled_by (Abort code) decision = Ok decision
+settled_by (Aborted abort) decision = Ok decision
 
 unfoldable pub sdo_settled : Device → List ℕ → ℕ → Settled
 sdo_settled d request room = settled_by (sdo_answer d request room).outcome (decision_on d (request_of request))

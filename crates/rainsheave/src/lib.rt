@@ -36,6 +36,7 @@ pub mod word;
 use crate::number::DONE;
 pub use device::Refusal;
 use device::{DISABLED, Device};
+pub use dictionary::Abort;
 use dictionary::Decision;
 pub use mapping::{RECEIVABLE, SENDABLE};
 pub use objects::{POSITION, PRESSURE, index};
@@ -43,7 +44,7 @@ use sdo::{Answer, Outcome};
 pub use sdo::{number_of as number_of_outcome, read_request, write_request};
 
 // What becomes of an SDO request: it is decided, or refused.
-pub type Settled = Result<Decision, Refusal>;
+pub type Settled = Result<Result<Decision, Abort>, Refusal>;
 
 // What becomes of a call that has nothing else to tell.
 pub type Report = Result<(), Refusal>;

@@ -1,4 +1,5 @@
 -- The service reads from a built request what was put in. Of a request's eight bytes the index has two and the number four, and each is made of its bytes again.
+use Rattle.std.specs.Prelude.{Result, Ok, Err}
 use mathlib.Core.Path.{◌≡◌, refl, sym, ◌∙◌}
 use mathlib.Core.Bool.{true}
 use Prim.Native.Nat.{ℕ, zero, suc, ◌%◌, ◌/◌, ◌≤◌, ◌<◌}
@@ -9,6 +10,8 @@ use lib.ListN.{length}
 use Rattle.integers.proofs.Cases.{by_test, apart}
 use Rattle.coding.specs.Bytes.{two_of, four_bytes}
 use Rattle.coding.proofs.Bytes.{four_back}
+use Rattle.dictionary.specs.declared.Abort.{Abort}
+use Rattle.dictionary.specs.declared.Abort.TheVariants.{UnknownCommand}
 use Rattle.sdo.specs.Frames.{FRAME, request_of, asks_of, frame_of, read_request, write_command, write_request}
 use Rattle.sdo.specs.declared.Request.{Request}
 use Rattle.sdo.specs.declared.Asks.{Asks}
@@ -35,7 +38,7 @@ pub read_request_read : (sub : ℕ) {index : ℕ} → index < 65536 → request_
 unfolding read_request
 read_request_read sub i = frame_read 0x40 sub i (omega arith)
 
-pub read_request_asks : asks_of 0x40 ≡ Reads
+pub read_request_asks : asks_of 0x40 ≡ Ok Reads
 unfolding asks_of
 read_request_asks = refl
 
@@ -43,7 +46,7 @@ pub write_request_read : (sub size : ℕ) {index number : ℕ} → index < 65536
 unfolding write_request
 write_request_read sub size i n = frame_read (write_command size) sub i n
 
-pub write_request_asks : (size : ℕ) → 0 < size → size ≤ 4 → asks_of (write_command size) ≡ Writes size
+pub write_request_asks : (size : ℕ) → 0 < size → size ≤ 4 → asks_of (write_command size) ≡ Ok (Writes size)
 unfolding asks_of write_command
 write_request_asks zero h k = absurd (omega arith)
 write_request_asks (suc zero) h k = refl
@@ -53,7 +56,7 @@ write_request_asks (suc (suc (suc (suc zero)))) h k = refl
 write_request_asks (suc (suc (suc (suc (suc size))))) h k = absurd (omega arith)
 
 -- and a command byte that asks for a write is the one of its size
-pub asks_write : (command size : ℕ) → asks_of command ≡ Writes size → (command ≡ write_command size) × (0 < size) × (size ≤ 4)
+pub asks_write : (command size : ℕ) → asks_of command ≡ Ok (Writes size) → (command ≡ write_command size) × (0 < size) × (size ≤ 4)
 unfolding asks_of write_command
 asks_write command size =
     by_test P (eqb command 0x40) (λ t e. apart (cc))
@@ -65,11 +68,24 @@ asks_write command size =
     Sized : ℕ → Type 0
     Sized n = (command ≡ write_command n) × (0 < n) × (n ≤ 4)
 
-    P : Asks → Type 0
-    P a = a ≡ Writes size → Sized size
+    P : Result Asks Abort → Type 0
+    P a = a ≡ Ok (Writes size) → Sized size
 
-    of : (n byte : ℕ) → eqb command byte ≡ true → write_command n ≡ byte → 0 < n → n ≤ 4 → P (Writes n)
+    of : (n byte : ℕ) → eqb command byte ≡ true → write_command n ≡ byte → 0 < n → n ≤ 4 → P (Ok (Writes n))
     of n byte t w h k e =
         let same : n ≡ size = cc in
         let sized : Sized n = (eqb-true command byte t ∙ sym w, h, k) in
         rw same at sized
+
+-- and one that asks for nothing is told to be unknown
+pub asks_unknown : (command : ℕ) (abort : Abort) → asks_of command ≡ Err abort → abort ≡ UnknownCommand
+unfolding asks_of
+asks_unknown command abort =
+    by_test P (eqb command 0x40) (λ t e. apart (cc))
+    (λ _. by_test P (eqb command 0x2F) (λ t e. apart (cc))
+    (λ _. by_test P (eqb command 0x2B) (λ t e. apart (cc))
+    (λ _. by_test P (eqb command 0x27) (λ t e. apart (cc))
+    (λ _. by_test P (eqb command 0x23) (λ t e. apart (cc)) (λ t e. cc)))))
+  where
+    P : Result Asks Abort → Type 0
+    P a = a ≡ Err abort → abort ≡ UnknownCommand

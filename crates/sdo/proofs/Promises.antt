@@ -1,4 +1,5 @@
 -- What the service promises: a sound device stays sound, all but an acknowledged write leaves the device as it was, and an acknowledged write is read back. Each is what the dictionary's decision promises.
+use Rattle.std.specs.Prelude.{Result, Ok, Err}
 use mathlib.Core.Logic.{◌≢◌}
 use mathlib.Core.Path.{◌≡◌, refl}
 use Prim.Native.Nat.{ℕ, ◌<◌, ◌%◌}
@@ -12,15 +13,16 @@ use Rattle.dictionary.specs.Named.{value}
 use Rattle.dictionary.specs.Values.{value_at}
 use Rattle.dictionary.specs.Decide.{carried_out}
 use Rattle.dictionary.specs.declared.Decision.{Decision}
-use Rattle.dictionary.specs.declared.Decision.TheVariants.{Read as Reading, Write, Abort as Aborting}
+use Rattle.dictionary.specs.declared.Decision.TheVariants.{Read as Reading, Write}
+use Rattle.dictionary.specs.declared.Abort.{Abort}
 use Rattle.dictionary.proofs.Decisions as Decisions
 use Rattle.sdo.specs.Frames.{asks_of}
 use Rattle.sdo.specs.Acknowledged.{Acknowledged}
 use Rattle.sdo.specs.Serve.{decision_by, decision_on, outcome_of, served}
 use Rattle.sdo.specs.declared.Request.{Request}
 use Rattle.sdo.specs.declared.Asks.{Asks}
-use Rattle.sdo.specs.declared.Asks.TheVariants.{Reads, Writes, Unknown}
-use Rattle.sdo.specs.declared.Outcome.TheVariants.{Read, Written, Abort}
+use Rattle.sdo.specs.declared.Asks.TheVariants.{Reads, Writes}
+use Rattle.sdo.specs.declared.Outcome.TheVariants.{Read, Written, Abort as Aborted}
 
 -- ---- all but an acknowledged write leaves the device as it was
 
@@ -28,13 +30,13 @@ pub not_written_unchanged : (d : Device) (q : Request) → (served d q).outcome 
 unfolding served
 not_written_unchanged d q = by (decision_on d q)
   where
-    by : (v : Decision) → outcome_of v ≢ Written → carried_out v d ≡ d
-    by (Reading size number) h = refl
-    by (Write which place x) h = absurd (h refl)
-    by (Aborting code) h = refl
+    by : (v : Result Decision Abort) → outcome_of v ≢ Written → carried_out v d ≡ d
+    by (Ok (Reading size number)) h = refl
+    by (Ok (Write which place x)) h = absurd (h refl)
+    by (Err abort) h = refl
 
-pub abort_unchanged : (d : Device) (q : Request) (code : ℕ) → (served d q).outcome ≡ Abort code → (served d q).device ≡ d
-abort_unchanged d q code e = not_written_unchanged d q (λ f. apart (cc))
+pub abort_unchanged : (d : Device) (q : Request) (abort : Abort) → (served d q).outcome ≡ Aborted abort → (served d q).device ≡ d
+abort_unchanged d q abort e = not_written_unchanged d q (λ f. apart (cc))
 
 pub read_unchanged : (d : Device) (q : Request) (size number : ℕ) → (served d q).outcome ≡ Read size number → (served d q).device ≡ d
 read_unchanged d q size number e = not_written_unchanged d q (λ f. apart (cc))
@@ -45,10 +47,10 @@ pub served_sound : {d : Device} → Sound d → (q : Request) → Sound (served 
 unfolding served decision_on
 served_sound {d} s q = by (asks_of q.command)
   where
-    by : (a : Asks) → Sound (carried_out (decision_by a d q) d)
-    by Reads = Decisions.read_sound s q.index q.sub
-    by (Writes size) = Decisions.write_sound s q.index q.sub size q.number
-    by Unknown = s
+    by : (a : Result Asks Abort) → Sound (carried_out (decision_by a d q) d)
+    by (Ok Reads) = Decisions.read_sound s q.index q.sub
+    by (Ok (Writes size)) = Decisions.write_sound s q.index q.sub size q.number
+    by (Err abort) = s
 
 -- ---- an acknowledged write
 
@@ -56,15 +58,15 @@ pub acknowledged : (d : Device) (q : Request) → (served d q).outcome ≡ Writt
 unfolding served decision_on
 acknowledged d q h = by_asks (asks_of q.command) refl
   where
-    by_decision : (a : Asks) → asks_of q.command ≡ a → (v : Decision) → decision_by a d q ≡ v → outcome_of v ≡ Written → Acknowledged d q
-    by_decision a f (Reading size number) e k = apart (cc)
-    by_decision Reads f (Write which place x) e k = absurd (Decisions.read_writes_nothing d q.index q.sub which place x e)
-    by_decision (Writes size) f (Write which place x) e k =
+    by_decision : (a : Result Asks Abort) → asks_of q.command ≡ a → (v : Result Decision Abort) → decision_by a d q ≡ v → outcome_of v ≡ Written → Acknowledged d q
+    by_decision a f (Ok (Reading size number)) e k = apart (cc)
+    by_decision (Ok Reads) f (Ok (Write which place x)) e k = absurd (Decisions.read_writes_nothing d q.index q.sub which place x e)
+    by_decision (Ok (Writes size)) f (Ok (Write which place x)) e k =
         record { which = which; place = place; size = size; x = x; asks = f; origin = Decisions.write_origin d q.index q.sub size q.number which place x e; device = rw (f, e) }
-    by_decision Unknown f (Write which place x) e k = apart (cc)
-    by_decision a f (Aborting code) e k = apart (cc)
+    by_decision (Err abort) f (Ok (Write which place x)) e k = apart (cc)
+    by_decision a f (Err abort) e k = apart (cc)
 
-    by_asks : (a : Asks) → asks_of q.command ≡ a → Acknowledged d q
+    by_asks : (a : Result Asks Abort) → asks_of q.command ≡ a → Acknowledged d q
     by_asks a f = by_decision a f (decision_by a d q) refl (rw f at h)
 
 -- a read of the same entry

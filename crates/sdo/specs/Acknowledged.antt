@@ -1,5 +1,5 @@
 -- An acknowledged write: what the request asks, where the decision comes from, and the device then.
-use Rattle.std.specs.Prelude.{◌≡◌, ℕ, ℤ}
+use Rattle.std.specs.Prelude.{◌≡◌, ℕ, ℤ, Ok}
 use Rattle.device.specs.declared.Device.{Device}
 use Rattle.dictionary.specs.Accept.{Origin}
 use Rattle.dictionary.specs.Values.{written_to}
@@ -14,6 +14,6 @@ pub record Acknowledged (d : Device) (q : Request) : Type 0 where
   pub place : ℕ
   pub size : ℕ
   pub x : ℤ
-  pub asks : asks_of q.command ≡ Writes size
+  pub asks : asks_of q.command ≡ Ok (Writes size)
   pub origin : Origin d q.index q.sub size q.number which place x
   pub device : (served d q).device ≡ written_to which place x d

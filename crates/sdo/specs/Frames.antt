@@ -1,13 +1,16 @@
 -- Document 01, "SDO": the bytes of a request and of its reply.
-use Rattle.std.specs.Prelude.{Bool, true, false, List, [], ◌∷◌, ◌++◌, ℕ, ◌%◌, ◌/◌, drop, if◌then◌else◌}
+use Rattle.std.specs.Prelude.{Bool, true, false, List, [], ◌∷◌, ◌++◌, ℕ, ◌%◌, ◌/◌, drop, Result, Ok, Err, if◌then◌else◌}
 use Rattle.integers.specs.Words.{◌is◌}
 use Rattle.coding.specs.Bytes.{byte_at, two_of, four_of, four_bytes}
 use Rattle.device.specs.Numbers.{number_of_refusal}
+use Rattle.dictionary.specs.Aborts.{code_of}
+use Rattle.dictionary.specs.declared.Abort.{Abort}
+use Rattle.dictionary.specs.declared.Abort.TheVariants.{UnknownCommand}
 use Rattle.sdo.specs.declared.Request.{Request}
 use Rattle.sdo.specs.declared.Asks.{Asks}
-use Rattle.sdo.specs.declared.Asks.TheVariants.{Reads, Writes, Unknown}
+use Rattle.sdo.specs.declared.Asks.TheVariants.{Reads, Writes}
 use Rattle.sdo.specs.declared.Outcome.{Outcome}
-use Rattle.sdo.specs.declared.Outcome.TheVariants.{Read, Written, Abort, Refused}
+use Rattle.sdo.specs.declared.Outcome.TheVariants.{Read, Written, Abort as Aborted, Refused}
 
 -- a request and a reply have eight bytes
 abbrev pub FRAME : ℕ
@@ -26,14 +29,14 @@ request_of bytes =
     }
 
 -- what a command byte asks: 40h reads; 2Fh, 2Bh, 27h, 23h write 1, 2, 3, 4 bytes
-unfoldable pub asks_of : ℕ → Asks
+unfoldable pub asks_of : ℕ → Result Asks Abort
 asks_of command =
-    if command is 0x40 then Reads
-    else if command is 0x2F then Writes 1
-    else if command is 0x2B then Writes 2
-    else if command is 0x27 then Writes 3
-    else if command is 0x23 then Writes 4
-    else Unknown
+    if command is 0x40 then Ok Reads
+    else if command is 0x2F then Ok (Writes 1)
+    else if command is 0x2B then Ok (Writes 2)
+    else if command is 0x27 then Ok (Writes 3)
+    else if command is 0x23 then Ok (Writes 4)
+    else Err UnknownCommand
 
 -- command, index low first, sub-index, four bytes of a number low first
 unfoldable pub frame_of : ℕ → ℕ → ℕ → ℕ → List ℕ
@@ -68,14 +71,14 @@ read_reply size =
 abbrev pub reply_of : Outcome → Request → List ℕ
 reply_of (Read size number) q = frame_of (read_reply size) q.index q.sub number
 reply_of Written q = frame_of 0x60 q.index q.sub 0
-reply_of (Abort code) q = frame_of 0x80 q.index q.sub code
+reply_of (Aborted abort) q = frame_of 0x80 q.index q.sub (code_of abort)
 reply_of (Refused refusal) q = []
 
 -- a reply is due to all but a refusal
 abbrev pub is_due : Outcome → Bool
 is_due (Read size number) = true
 is_due Written = true
-is_due (Abort code) = true
+is_due (Aborted abort) = true
 is_due (Refused refusal) = false
 
 -- the room after the reply: it goes to the first eight bytes and later bytes stay; a refusal writes nothing
@@ -86,5 +89,5 @@ replied_in outcome q room = if is_due outcome then reply_of outcome q ++ drop FR
 abbrev pub number_handed_back : Outcome → ℕ
 number_handed_back (Read size number) = 0
 number_handed_back Written = 0
-number_handed_back (Abort code) = 0
+number_handed_back (Aborted abort) = 0
 number_handed_back (Refused refusal) = number_of_refusal refusal

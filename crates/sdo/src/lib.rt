@@ -8,7 +8,7 @@ ghost use Rattle.sdo.specs.Serve.{decision_on, outcome_of, answer_to};
 ghost use Rattle.sdo.specs.Asked.{EightBytes, Due, ReplyRoom};
 
 use device::{Device, Refusal};
-use dictionary::{Decision, UNKNOWN_COMMAND};
+use dictionary::{Abort, Decision};
 
 // What a request says; the number is that of its four data bytes.
 #[derive(Clone, Copy)]
@@ -24,15 +24,14 @@ pub struct Request {
 pub enum Asks {
     Reads,
     Writes(u8),
-    Unknown,
 }
 
-// What a request leads to: so many bytes of a number read, a write done, an abort with its code, or a refusal.
+// What a request leads to: so many bytes of a number read, a write done, an abort, or a refusal.
 #[derive(Clone, Copy)]
 pub enum Outcome {
     Read { size: u8, number: u32 },
     Written,
-    Abort(u32),
+    Abort(Abort),
     Refused(Refusal),
 }
 
@@ -100,51 +99,52 @@ pub fn write_request(index: u16, sub: u8, size: u8, number: u32) -> [u8; 8]
 // ---- the service
 
 #[tactic(auto, unfolding(crate::specs::Frames::asks_of))]
-fn asks_of(command: u8) -> Asks
+fn asks_of(command: u8) -> Result<Asks, Abort>
     ensures { result ≡ asks_of command }
 {
     match command {
-        0x40 => Asks::Reads,
-        0x2F => Asks::Writes(1),
-        0x2B => Asks::Writes(2),
-        0x27 => Asks::Writes(3),
-        0x23 => Asks::Writes(4),
-        _ => Asks::Unknown,
+        0x40 => Ok(Asks::Reads),
+        0x2F => Ok(Asks::Writes(1)),
+        0x2B => Ok(Asks::Writes(2)),
+        0x27 => Ok(Asks::Writes(3)),
+        0x23 => Ok(Asks::Writes(4)),
+        _ => Err(Abort::UnknownCommand),
     }
 }
 
 // What becomes of a request.
 #[tactic(auto, unfolding(crate::specs::Serve::decision_on))]
-pub fn decision_on(device: Device, request: Request) -> Decision
+pub fn decision_on(device: Device, request: Request) -> Result<Decision, Abort>
     requires { Sound device }
     ensures { result ≡ decision_on device request }
 {
     let index = request.index;
     let sub = request.sub;
-    match asks_of(request.command) {
+    match asks_of(request.command)? {
         Asks::Reads => dictionary::decide_read(device, index, sub),
         Asks::Writes(size) => dictionary::decide_write(device, index, sub, size, request.number),
-        Asks::Unknown => Decision::Abort(UNKNOWN_COMMAND),
     }
 }
 
 // The outcome of a decision.
-pub fn outcome_of(decision: Decision) -> Outcome
+pub fn outcome_of(decision: Result<Decision, Abort>) -> Outcome
     ensures { result ≡ outcome_of decision }
 {
     match decision {
-        Decision::Read { size, number } => Outcome::Read { size, number },
-        Decision::Write {
-            which: _,
-            place: _,
-            value: _,
-        } => Outcome::Written,
-        Decision::Abort(code) => Outcome::Abort(code),
+        Ok(Decision::Read { size, number }) => Outcome::Read { size, number },
+        Ok(
+            Decision::Write {
+                which: _,
+                place: _,
+                value: _,
+            },
+        ) => Outcome::Written,
+        Err(abort) => Outcome::Abort(abort),
     }
 }
 
 // The answer that a decision leads to: it is carried out.
-pub fn answer_to(device: Device, decision: Decision) -> Answer
+pub fn answer_to(device: Device, decision: Result<Decision, Abort>) -> Answer
     requires { Decided decision }
     ensures { result ≡ answer_to decision device }
 {
@@ -188,7 +188,7 @@ fn reply_of(outcome: Outcome, request: Request) -> [u8; 8]
     match outcome {
         Outcome::Read { size, number } => frame_of(read_reply(size), index, sub, number),
         Outcome::Written => frame_of(0x60, index, sub, 0),
-        Outcome::Abort(code) => frame_of(0x80, index, sub, code),
+        Outcome::Abort(abort) => frame_of(0x80, index, sub, abort.code()),
         Outcome::Refused(_) => frame_of(0, index, sub, 0),
     }
 }

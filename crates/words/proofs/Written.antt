@@ -1,5 +1,5 @@
 -- An accepted write stores what the words of the written device have: one word, or for a selection the blocks, or for a control word what moves.
-use Rattle.std.specs.Prelude.{if◌then◌else◌}
+use Rattle.std.specs.Prelude.{Result, Ok, Err, if◌then◌else◌}
 use mathlib.Core.List.{List, [], ◌∷◌, ◌++◌, map}
 use mathlib.Core.Path.{◌≡◌, refl, sym, ap, ◌∙◌}
 use Prim.Native.Nat.{ℕ, zero, suc, ◌+◌, ◌-◌, ◌≤◌, ◌<◌}
@@ -28,7 +28,8 @@ use Rattle.device.proofs.Kept.{controlled_keeps}
 use Rattle.dictionary.specs.Asked.{Writing, Decided}
 use Rattle.dictionary.specs.Decide.{carried_out}
 use Rattle.dictionary.specs.declared.Decision.{Decision}
-use Rattle.dictionary.specs.declared.Decision.TheVariants.{Read, Write, Abort}
+use Rattle.dictionary.specs.declared.Decision.TheVariants.{Read, Write}
+use Rattle.dictionary.specs.declared.Abort.{Abort}
 use Rattle.dictionary.specs.Values.{receive_written, transmit_written, written_to}
 use Rattle.dictionary.proofs.Maps.{one_of_three, sub_most, from_zero}
 use Rattle.dictionary.proofs.Written.{to_setting, to_dither, to_receive, to_transmit, to_setpoint, to_selection, to_control, by_target, written_number}
@@ -194,7 +195,7 @@ module _ {words : List ℤ} (h : Held words) (l : length words ≡ WORDS) where
       (λ e. rw (to_control which place x device e) (control_written which place x e))
 
   -- what was decided
-  pub carried_words : (x : Decision) → Decided x → carried_out_in x words ≡ words_of (carried_out x device)
-  carried_words (Read size number) c = sym back
-  carried_words (Write which place x) c = written_words which place x c.writes
-  carried_words (Abort code) c = sym back
+  pub carried_words : (x : Result Decision Abort) → Decided x → carried_out_in x words ≡ words_of (carried_out x device)
+  carried_words (Ok (Read size number)) c = sym back
+  carried_words (Ok (Write which place x)) c = written_words which place x c.writes
+  carried_words (Err abort) c = sym back

@@ -1,8 +1,9 @@
 -- What the functions on words ask of what they are handed.
-use Rattle.std.specs.Prelude.{Bool, true, List, ◌≡◌, ℕ, ◌+◌, ◌<◌, ◌≤◌, ℤ, length}
+use Rattle.std.specs.Prelude.{Bool, true, List, ◌≡◌, ℕ, ◌+◌, ◌<◌, ◌≤◌, ℤ, length, Result}
 use Rattle.objects.specs.Places.{SETTINGS, SELECTION}
 use Rattle.dictionary.specs.Asked.{Writing, Decided}
 use Rattle.dictionary.specs.declared.Decision.{Decision}
+use Rattle.dictionary.specs.declared.Abort.{Abort}
 use Rattle.words.specs.Stored.{start_of, word_of}
 use Rattle.words.specs.Words.{OTHER_BLOCK, WORDS, hold_map, hold_device}
 
@@ -57,6 +58,6 @@ pub record Written (words : List ℤ) (place : ℕ) (x : ℤ) : Type 0 where
   pub writing : Writing place x
 
 -- words that hold a device, and what was decided
-pub record Carried (words : List ℤ) (decision : Decision) : Type 0 where
+pub record Carried (words : List ℤ) (decision : Result Decision Abort) : Type 0 where
   pub held : Held words
   pub decided : Decided decision

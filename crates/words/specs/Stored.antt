@@ -1,5 +1,5 @@
 -- What the functions that store into words leave there: the laws show each to be the words of the changed device.
-use Rattle.std.specs.Prelude.{List, ℕ, ◌+◌, ◌-◌, ℤ, pos, nat_abs, set, if◌then◌else◌}
+use Rattle.std.specs.Prelude.{List, ℕ, ◌+◌, ◌-◌, ℤ, pos, nat_abs, set, Result, Ok, Err, if◌then◌else◌}
 use Rattle.std.proofs.lemmas.List.Edits.{sets}
 use Rattle.integers.specs.Words.{◌is◌, ◌below◌, ◌=?◌}
 use Rattle.objects.specs.Places.{SETTINGS, HOLD_SET_POINT, DITHER_TYPE, SET_POINT, SELECTION, POSITION}
@@ -10,7 +10,8 @@ use Rattle.device.specs.Device.{block_of, with_block_of}
 use Rattle.device.specs.Events.{controlled}
 use Rattle.device.specs.declared.Device.{Device}
 use Rattle.dictionary.specs.declared.Decision.{Decision}
-use Rattle.dictionary.specs.declared.Decision.TheVariants.{Read, Write, Abort}
+use Rattle.dictionary.specs.declared.Decision.TheVariants.{Read, Write}
+use Rattle.dictionary.specs.declared.Abort.{Abort}
 use Rattle.words.specs.Words.{SELECTED_BLOCK, OTHER_BLOCK, SELECTED, STATE, CONTROL_WORD, ERROR_CODE, PHASE, DITHER, word, block_in, device_in}
 
 -- position, state, control word, error code and phase of a device
@@ -67,10 +68,10 @@ written_in which place value words =
     else set words (word_of (start_of which words) place) value
 
 -- what was decided: an abort changes nothing, and reading never does
-abbrev pub carried_out_in : Decision → List ℤ → List ℤ
-carried_out_in (Read size number) words = words
-carried_out_in (Write which place x) words = written_in which place x words
-carried_out_in (Abort code) words = words
+abbrev pub carried_out_in : Result Decision Abort → List ℤ → List ℤ
+carried_out_in (Ok (Read size number)) words = words
+carried_out_in (Ok (Write which place x)) words = written_in which place x words
+carried_out_in (Err abort) words = words
 
 -- the device with the set points of another
 unfoldable pub with_set_points : Device → Device → Device

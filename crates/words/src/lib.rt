@@ -20,7 +20,7 @@ ghost use Rattle.words.specs.Asked.{Place, Settings, Blocks, Mapped, HeldMap, He
 
 use block::Block;
 use device::Device;
-use dictionary::Decision;
+use dictionary::{Abort, Decision};
 use dither::Dither;
 use mapping::{Map, Maps};
 use objects::{
@@ -295,17 +295,18 @@ fn put_written(words: &mut [i64; WORDS], which: u8, place: usize, value: i64)
 }
 
 // What was decided is done: only a write changes a word.
-pub fn carry_out(words: &mut [i64; WORDS], decision: Decision)
+pub fn carry_out(words: &mut [i64; WORDS], decision: Result<Decision, Abort>)
     requires { Carried words.old decision }
     ensures { words.new ≡ carried_out_in decision words.old }
 {
-    match decision {
-        Decision::Read { size: _, number: _ } => {}
+    if let Ok(
         Decision::Write {
             which,
             place,
             value,
-        } => put_written(words, which, place, value),
-        Decision::Abort(_) => {}
+        },
+    ) = decision
+    {
+        put_written(words, which, place, value);
     }
 }

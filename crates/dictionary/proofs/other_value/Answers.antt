@@ -15,7 +15,7 @@ pub returns-in-30 : goal.returns-in-30
 unfolding value_at objects
 returns-in-30 c =
     let w = setpoint_within c.requires.placed.sound c.args.which in
-    rw (c.in-30.is, c.block_of-block.ensures) (valued refl (to_z-of_z {w = w64} (fits w tt tt), w))
+    rw (c.in-30.is, c.block_of.ensures) (valued refl (to_z-of_z {w = w64} (fits w tt tt), w))
 
 pub returns-in-31 : goal.returns-in-31
 unfolding value_at objects

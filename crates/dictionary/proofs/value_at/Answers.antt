@@ -15,7 +15,7 @@ pub returns-then-place-lt-SETTINGS : goal.returns-then-place-lt-SETTINGS
 unfolding value_at
 returns-then-place-lt-SETTINGS c =
     valued (rw (lt-ltb _ _ c.if-place-lt-SETTINGS.true))
-    (result_told c.setting.type_inv c.setting.ensures ∙ ap (λ (b : Block). setting b c.args.place) c.block_of-block.ensures, setting_within c.requires.sound c.args.which _ c.if-place-lt-SETTINGS.true)
+    (result_told c.setting.type_inv c.setting.ensures ∙ ap (λ (b : Block). setting b c.args.place) c.block_of.ensures, setting_within c.requires.sound c.args.which _ c.if-place-lt-SETTINGS.true)
 
 pub returns-then-place-lt-RECEIVE_MAP : goal.returns-then-place-lt-RECEIVE_MAP
 returns-then-place-lt-RECEIVE_MAP c =

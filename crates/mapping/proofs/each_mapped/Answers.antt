@@ -1,18 +1,14 @@
--- One entry more has been shown. Where the loop stops early, that entry may not be mapped.
-use Rattle.std.proofs.Common.{sym, ◌∙◌, get_or, arith}
+-- The entries that are tested are the first n.
+use Rattle.std.proofs.Common.{rules, ◌∙◌, arith}
+use Rattle.std.proofs.lemmas.Iterator.{YieldsList-from_slice}
+use Rattle.std.proofs.lemmas.Iterator.Search.{all_from_yields_List}
 use Rattle.integers.specs.Words.{◌among◌}
-use Rattle.integers.proofs.Each.{each_none, each_more, each_fails}
 use Rattle.mapping.specs.Rules.{each_mapped}
+use Rattle.mapping.proofs.Laws.{all_of_first}
 use Rattle.mapping.proofs.each_mapped.Goals as goal
 
-pub loop-k-init : goal.loop-k-init
-loop-k-init c = record { passed = omega arith; mapped = each_none _ }
-
-pub returns-then-not-is_among : goal.returns-then-not-is_among
+pub returns : goal.returns
 unfolding each_mapped
-returns-then-not-is_among c =
-    sym (each_fails c.args.n (λ j. get_or c.args.map.entries j 0 among c.args.mappable) c.loop-k.k (omega arith) (sym c.is_among.ensures ∙ c.if-not-is_among.true))
-
-pub loop-k-preserved : goal.loop-k-preserved
-loop-k-preserved c =
-    record { passed = omega arith; mapped = each_more _ _ c.loop-k.invariant.mapped (sym c.is_among.ensures ∙ c.if-not-is_among.false) }
+returns c =
+    all_from_yields_List (λ entry. entry among c.args.mappable) _ _ _ c.all.ensures.ran (YieldsList-from_slice _ (cc)) (λ x b q k. search rules)
+    ∙ all_of_first (λ entry. entry among c.args.mappable) c.args.map.entries c.args.n (omega arith)

@@ -1,22 +1,19 @@
--- One entry more has been shown. Where the loop stops early, that entry may not stand there.
-use Rattle.std.proofs.Common.{◌≡◌, length, sym, ◌∙◌, get_or, arith, rules}
+-- Each entry is tested with its place.
+use Rattle.std.proofs.Common.{rules, ℕ, length, ◌≡◌, ◌∙◌}
+use Rattle.std.proofs.lemmas.Iterator.{YieldsList-from_slice}
+use Rattle.std.proofs.lemmas.Iterator.Consumers.{YieldsList-from_enumerate}
+use Rattle.std.proofs.lemmas.Iterator.Search.{all_from_yields_List}
 use borrow.Author.Tests.{le-ltb}
-use Rattle.integers.proofs.Each.{each_none, each_more, each_fails}
 use Rattle.mapping.specs.Maps.{ENTRIES}
 use Rattle.mapping.specs.Sound.{may_stand, sound_map}
+use Rattle.mapping.proofs.Laws.{all_of_four}
 use Rattle.mapping.proofs.is_sound_map.Goals as goal
 
-pub loop-k-init : goal.loop-k-init
-loop-k-init c = record { passed = omega arith; stand = each_none _ }
-
-pub returns-then-not-may_stand : goal.returns-then-not-may_stand
+pub returns : goal.returns
 unfolding sound_map
-returns-then-not-may_stand c =
+returns c =
     let s = c.args in
     let long : length s.map.entries ≡ ENTRIES = search rules in
-    let stops = each_fails ENTRIES (λ j. may_stand s.mappable s.map.count j (get_or s.map.entries j 0)) c.loop-k.k (omega arith) (sym c.may_stand.ensures ∙ c.if-not-may_stand.true) in
-    rw (long, le-ltb _ _ c.if-count-gt-ENTRIES.false, stops)
-
-pub loop-k-preserved : goal.loop-k-preserved
-loop-k-preserved c =
-    record { passed = omega arith; stand = each_more _ _ c.loop-k.invariant.stand (sym c.may_stand.ensures ∙ c.if-not-may_stand.false) }
+    rw (long, le-ltb _ _ c.if-count-gt-ENTRIES.false)
+    (all_from_yields_List (λ (p : ℕ × ℕ). may_stand s.mappable s.map.count p.0 p.1) _ _ _ c.all.ensures.ran (YieldsList-from_enumerate (YieldsList-from_slice s.map.entries (cc)) (cc)) (λ x b q k. search rules)
+    ∙ all_of_four (may_stand s.mappable s.map.count) s.map.entries long)
