@@ -23,7 +23,7 @@ use Rattle.mapping.specs.declared.Misfit.{Misfit}
 use Rattle.mapping.specs.declared.Misfit.TheVariants.{WhileCounted, AboveFour, NotMappable as MisfitNotMappable}
 use Rattle.device.specs.Device.{block_of}
 use Rattle.device.specs.declared.Device.{Device}
-use Rattle.dictionary.specs.Aborts.{UNKNOWN_COMMAND, NO_OBJECT, NO_SUB_INDEX, READ_ONLY_ENTRY, TOO_MANY_BYTES, TOO_FEW_BYTES, TOO_HIGH, TOO_LOW, NO_SUCH_CHOICE, LIMITS_CROSSED, LOCKED_NOW, MAP_TOO_LONG, NOT_MAPPABLE, code_of}
+use Rattle.dictionary.specs.Aborts.{UNKNOWN_COMMAND, NO_OBJECT, NO_SUB_INDEX, READ_ONLY_ENTRY, TOO_MANY_BYTES, TOO_FEW_BYTES, TOO_HIGH, TOO_LOW, NO_SUCH_CHOICE, LIMITS_CROSSED, LOCKED_NOW, MAP_TOO_LONG, NOT_MAPPABLE, code_of_abort}
 use Rattle.dictionary.specs.Named.{Named, value, byte, nothing, entered, located, named}
 use Rattle.dictionary.specs.Decide.{size_abort, range_abort, crosses, is_locked, map_ruling, ruled, verdict_on, read_of, read_decision, write_of, write_decision}
 use Rattle.dictionary.specs.declared.Decision.{Decision}
@@ -38,7 +38,7 @@ abbrev pub OTHERS : List ℕ
 OTHERS = UNKNOWN_COMMAND ∷ NO_OBJECT ∷ NO_SUB_INDEX ∷ READ_ONLY_ENTRY ∷ TOO_HIGH ∷ TOO_LOW ∷ NO_SUCH_CHOICE ∷ LIMITS_CROSSED ∷ LOCKED_NOW ∷ MAP_TOO_LONG ∷ NOT_MAPPABLE ∷ []
 
 abbrev pub Other : Abort → Type 0
-Other abort = code_of abort among OTHERS ≡ true
+Other abort = code_of_abort abort among OTHERS ≡ true
 
 -- a choice's code is one of them too
 range_other : (choice : Bool) (abort : Abort) → Other abort → Other (range_abort choice abort)
@@ -47,10 +47,10 @@ range_other false abort h = h
 
 -- ---- the fifth place's code says which way the sizes differ
 
-pub code_of_more : {has sent : ℕ} → has < sent → code_of (size_abort has sent) ≡ TOO_MANY_BYTES
+pub code_of_more : {has sent : ℕ} → has < sent → code_of_abort (size_abort has sent) ≡ TOO_MANY_BYTES
 code_of_more {has} {sent} h = rw (lt-ltb has sent h)
 
-pub code_of_fewer : {has sent : ℕ} → sent < has → code_of (size_abort has sent) ≡ TOO_FEW_BYTES
+pub code_of_fewer : {has sent : ℕ} → sent < has → code_of_abort (size_abort has sent) ≡ TOO_FEW_BYTES
 code_of_fewer {has} {sent} h = rw (le-ltb has sent (omega arith))
 
 -- ---- the verdict on a write

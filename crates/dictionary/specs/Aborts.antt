@@ -56,20 +56,20 @@ abbrev pub NOT_MAPPABLE : ℕ
 NOT_MAPPABLE = 0x06040041
 
 -- the code of each
-abbrev pub code_of : Abort → ℕ
-code_of UnknownCommand = UNKNOWN_COMMAND
-code_of NoObject = NO_OBJECT
-code_of NoSubIndex = NO_SUB_INDEX
-code_of ReadOnlyEntry = READ_ONLY_ENTRY
-code_of TooManyBytes = TOO_MANY_BYTES
-code_of TooFewBytes = TOO_FEW_BYTES
-code_of TooHigh = TOO_HIGH
-code_of TooLow = TOO_LOW
-code_of NoSuchChoice = NO_SUCH_CHOICE
-code_of LimitsCrossed = LIMITS_CROSSED
-code_of LockedNow = LOCKED_NOW
-code_of MapTooLong = MAP_TOO_LONG
-code_of NotMappable = NOT_MAPPABLE
+abbrev pub code_of_abort : Abort → ℕ
+code_of_abort UnknownCommand = UNKNOWN_COMMAND
+code_of_abort NoObject = NO_OBJECT
+code_of_abort NoSubIndex = NO_SUB_INDEX
+code_of_abort ReadOnlyEntry = READ_ONLY_ENTRY
+code_of_abort TooManyBytes = TOO_MANY_BYTES
+code_of_abort TooFewBytes = TOO_FEW_BYTES
+code_of_abort TooHigh = TOO_HIGH
+code_of_abort TooLow = TOO_LOW
+code_of_abort NoSuchChoice = NO_SUCH_CHOICE
+code_of_abort LimitsCrossed = LIMITS_CROSSED
+code_of_abort LockedNow = LOCKED_NOW
+code_of_abort MapTooLong = MAP_TOO_LONG
+code_of_abort NotMappable = NOT_MAPPABLE
 
 -- the abort of each write that a map does not take
 abbrev pub abort_of : Misfit → Abort

@@ -47,6 +47,7 @@ size_abort has sent = if has below sent then TooManyBytes else TooFewBytes
 abbrev pub range_abort : Bool → Abort → Abort
 range_abort choice abort = if choice then NoSuchChoice else abort
 
+-- what becomes of a value out of its row's range
 abbrev pub range_rule : Row → ℤ → Result (Unit {0}) Abort
 range_rule row x =
     if row.high <? x then Err (range_abort row.choice TooHigh)

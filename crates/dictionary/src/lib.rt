@@ -3,7 +3,7 @@
 // out of that.
 ghost use Rattle.std.specs.Prelude.{◌≡◌, ◌+◌, if◌then◌else◌};
 ghost use Rattle.integers.specs.Words.{◌is◌};
-ghost use Rattle.dictionary.specs.Aborts.{code_of, abort_of};
+ghost use Rattle.dictionary.specs.Aborts.{code_of_abort, abort_of};
 ghost use Rattle.dictionary.specs.Values.{value_at, written_to};
 ghost use Rattle.dictionary.specs.Named as Named;
 ghost use Rattle.objects.specs.Table.{row_at};
@@ -68,7 +68,7 @@ pub enum Abort {
 impl Abort {
     // The code that the reply has.
     pub fn code(self) -> u32
-        ensures { result ≡ code_of self }
+        ensures { result ≡ code_of_abort self }
     {
         match self {
             Abort::UnknownCommand => UNKNOWN_COMMAND,
@@ -228,7 +228,7 @@ fn is_locked(lock: Lock, state: u8) -> bool
     }
 }
 
-// A rule that one abort tells.
+// An abort where a rule is broken.
 fn abort_if(broken: bool, abort: Abort) -> Result<(), Abort>
     ensures { result ≡ (if broken then Err abort else Ok tt) }
 {

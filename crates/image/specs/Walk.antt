@@ -49,11 +49,11 @@ abbrev pub NOT_FOUND : ℕ
 NOT_FOUND = 10
 
 -- the number of a refused search
-abbrev pub miss_number : Miss → ℕ
-miss_number Cut = FIELD_CUT
-miss_number Ended = NOT_FOUND
+abbrev pub number_of_miss : Miss → ℕ
+number_of_miss Cut = FIELD_CUT
+number_of_miss Ended = NOT_FOUND
 
 -- the number handed back
 abbrev pub code_of : Found → ℕ
 code_of (Ok part) = 0
-code_of (Err miss) = miss_number miss
+code_of (Err miss) = number_of_miss miss

@@ -5,7 +5,7 @@ ghost use Rattle.std.proofs.Math.Seq.{paste};
 ghost use Rattle.block.specs.Asked.{ASetting};
 ghost use Rattle.image.specs.Fields.{field_length, long_field, field_of, stored_in};
 ghost use Rattle.image.specs.Load.{head_at, is_full, four_at, value_in_image, settings_in};
-ghost use Rattle.image.specs.Walk.{walk, part_of, begin_of, miss_number, code_of};
+ghost use Rattle.image.specs.Walk.{walk, part_of, begin_of, number_of_miss, code_of};
 ghost use Rattle.image.specs.Asked.{Storing, Near, Putting, Starts, Walked};
 
 use objects::SETTINGS;
@@ -27,7 +27,7 @@ pub const NOT_FOUND: u8 = 10;
 
 impl Miss {
     pub fn number(self) -> u8
-        ensures { result ≡ miss_number self }
+        ensures { result ≡ number_of_miss self }
     {
         match self {
             Miss::Cut => FIELD_CUT,

@@ -40,12 +40,11 @@ fn one_more(count: u64) -> u64
 
 // A case passes where a reply is due and is the expected one.
 #[tactic(auto, unfolding(crate::specs::Judging::passes), using(crate::proofs::Same::eq_same))]
-fn passes(outcome: Outcome, reply: &[u8], expected: &[u8]) -> bool
-    requires reply { EightBytes reply.now }
-    requires expected { EightBytes expected.now }
-    ensures { result ≡ Judging.passes outcome reply.now expected.now }
+fn passes(outcome: Outcome, reply: [u8; 8], expected: &[u8]) -> bool
+    requires { EightBytes expected.now }
+    ensures { result ≡ Judging.passes outcome reply expected.now }
 {
-    sdo::is_due(outcome) && reply == expected
+    sdo::is_due(outcome) && reply[..] == expected[..]
 }
 
 // How many failed, by whether one case more passes.
@@ -67,7 +66,7 @@ fn judge(tally: Tally, case: &[u8; CASE]) -> Tally
     Tally {
         device: answer.device,
         cases: one_more(tally.cases),
-        failed: failed_after(tally.failed, passes(answer.outcome, &reply, expected)),
+        failed: failed_after(tally.failed, passes(answer.outcome, reply, expected)),
     }
 }
 

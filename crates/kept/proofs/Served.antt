@@ -26,7 +26,7 @@ use Rattle.device.specs.Queries.{block_command, device_command, status_of}
 use Rattle.device.specs.Sound.{Sound}
 use Rattle.device.specs.declared.Device.{Device}
 use Rattle.device.proofs.Laws.{device_parts, state_below, other_at_zero, selected_is}
-use Rattle.dictionary.specs.Aborts.{code_of}
+use Rattle.dictionary.specs.Aborts.{code_of_abort}
 use Rattle.dictionary.specs.Accept.{Origin}
 use Rattle.dictionary.specs.Named.{Named, value, byte, nothing, named}
 use Rattle.dictionary.specs.Values.{value_at, written_to}
@@ -120,7 +120,7 @@ pub data Came : Type 0 where
 abbrev pub came : Outcome → Came
 came (Read size number) = gave size number
 came Written = done
-came (Aborted abort) = aborted (code_of abort)
+came (Aborted abort) = aborted (code_of_abort abort)
 came (Refused _) = refused
 
 came_gave : (o : Outcome) {size number : ℕ} → came o ≡ gave size number → o ≡ Read size number
@@ -165,8 +165,8 @@ record Meets (v : Result Decision Abort) (list : List Refusal) (due : Came) : Ty
   outcome : came (outcome_of v) ≡ first_or list due
 
 step :
-    (abort : Abort) {t u : Bool} {rest : Result Decision Abort} {list : List Refusal} {due : Came} → (code_of abort is 0) ≡ false → t ≡ u →
-    (t ≡ false → Meets rest list due) → Meets (cond t (Err abort) rest) (code_of abort when u ∷ list) due
+    (abort : Abort) {t u : Bool} {rest : Result Decision Abort} {list : List Refusal} {due : Came} → (code_of_abort abort is 0) ≡ false → t ≡ u →
+    (t ≡ false → Meets rest list due) → Meets (cond t (Err abort) rest) (code_of_abort abort when u ∷ list) due
 step abort {t} {u} n e f = record { outcome = rw (← e) (by_cases t (λ k. rw (k, n)) (λ k. rw k (f k).outcome)) }
 
 -- place 5 has a line for each way

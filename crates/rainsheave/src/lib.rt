@@ -1,6 +1,6 @@
 #![tactic(auto)]
 // Rainsheave, the public library: every call, for every frame, image, event and state that can be handed in. No call has a `requires`:
-// what is not allowed is refused by number, the device comes back as it came, and a refusal writes nothing.
+// what is not allowed is refused, by document 01's number, the device comes back as it came, and a refusal writes nothing.
 ghost use Rattle.std.specs.Prelude.{◌≡◌, false, Ok, Err, OnOk, OnErr, IfErr};
 ghost use Rattle.device.specs.Sound.{sound_device, Sound};
 ghost use Rattle.sdo.specs.Serve.{answer};
@@ -43,7 +43,7 @@ pub use objects::{POSITION, PRESSURE, index};
 use sdo::{Answer, Outcome};
 pub use sdo::{number_of as number_of_outcome, read_request, write_request};
 
-// What becomes of an SDO request: it is decided, or refused.
+// What becomes of an SDO request: it is refused, or decided, on a read, a write or an abort.
 pub type Settled = Result<Result<Decision, Abort>, Refusal>;
 
 // What becomes of a call that has nothing else to tell.

@@ -3,7 +3,7 @@ use Rattle.std.specs.Prelude.{Bool, true, false, List, [], ◌∷◌, ◌++◌, 
 use Rattle.integers.specs.Words.{◌is◌}
 use Rattle.coding.specs.Bytes.{byte_at, two_of, four_of, four_bytes}
 use Rattle.device.specs.Numbers.{number_of_refusal}
-use Rattle.dictionary.specs.Aborts.{code_of}
+use Rattle.dictionary.specs.Aborts.{code_of_abort}
 use Rattle.dictionary.specs.declared.Abort.{Abort}
 use Rattle.dictionary.specs.declared.Abort.TheVariants.{UnknownCommand}
 use Rattle.sdo.specs.declared.Request.{Request}
@@ -71,7 +71,7 @@ read_reply size =
 abbrev pub reply_of : Outcome → Request → List ℕ
 reply_of (Read size number) q = frame_of (read_reply size) q.index q.sub number
 reply_of Written q = frame_of 0x60 q.index q.sub 0
-reply_of (Aborted abort) q = frame_of 0x80 q.index q.sub (code_of abort)
+reply_of (Aborted abort) q = frame_of 0x80 q.index q.sub (code_of_abort abort)
 reply_of (Refused refusal) q = []
 
 -- a reply is due to all but a refusal

@@ -1,12 +1,10 @@
 #![tactic(auto)]
 // Reads a file of event records from standard input, and writes a line for each event to standard output. A read that fails ends
 // the run, and is told on standard error.
-use arrayvec::ArrayString;
 use std::io;
 use tracing::Run;
 
-// A block of 128 whole records; it is full until the input ends. Its text has 512 bytes for each, and no line has more than 330, so that
-// it never runs out of room.
+// A block of 128 whole records; it is full until the input ends. Its text has 512 bytes for each, and no line has more than 340.
 const BLOCK_LENGTH: usize = 2048;
 
 const TEXT_LENGTH: usize = 65536;
@@ -17,14 +15,13 @@ fn main(rt: HostRuntime) -> io::Result<()> {
     let mut input = rt.reader();
     let mut run = Run::new();
     let mut records = [0; BLOCK_LENGTH];
-    let mut text = ArrayString::<TEXT_LENGTH>::new();
+    let mut text = [0; TEXT_LENGTH];
     for _ in 0..u64::MAX {
         let Ok(n) = input::fill(&mut input, &mut records) else {
             return eprintln!(rt; "trace: reading failed");
         };
-        text.clear();
-        run.trace(&records[..n], &mut text)?;
-        rt.write_all(text.as_str().as_bytes())?;
+        let end = run.trace(&records[..n], &mut text);
+        rt.write_all(&text[..end.min(TEXT_LENGTH)])?;
         if n < BLOCK_LENGTH {
             break;
         }

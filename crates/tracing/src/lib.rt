@@ -2,9 +2,11 @@
 // A run of events over a device, with a line of text for each event.
 mod calls;
 mod event;
+mod room;
 mod unsound;
 
 use crate::event::{Event, Kind, RECORD_LENGTH};
+use crate::room::Room;
 use device::Device;
 use image::IMAGE_LENGTH;
 use rainsheave::{Change, Refusal};
@@ -310,7 +312,7 @@ impl Run {
     }
 
     // Every record, with a line for each, and one for a part record at the end.
-    pub fn trace(&mut self, records: &[u8], text: &mut impl Write) -> fmt::Result {
+    fn trace_all(&mut self, records: &[u8], text: &mut impl Write) -> fmt::Result {
         let (records, part) = records.as_chunks::<RECORD_LENGTH>();
         for record in records {
             self.trace_event(&Event::from(*record), text)?;
@@ -320,5 +322,13 @@ impl Run {
             writeln!(text, "part {}", part.len())?;
         }
         Ok(())
+    }
+
+    // The lines of all records go to the start of the text; where they end is handed back. A room refuses no part of a line, so that
+    // there is no failure to tell.
+    pub fn trace(&mut self, records: &[u8], text: &mut [u8]) -> usize {
+        let mut room = Room { text, end: 0 };
+        let _ = self.trace_all(records, &mut room);
+        room.end
     }
 }
