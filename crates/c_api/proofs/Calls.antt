@@ -30,9 +30,6 @@ module _ {words : List ℤ} {t : Bool} (tested : Tested words t) where
   pub holds : t ≡ true → hold_device words ≡ true
   holds e = sym tested.result ∙ e
 
-  pub holds_none : t ≡ false → hold_device words ≡ false
-  holds_none e = sym tested.result ∙ e
-
   pub held : t ≡ true → Held words
   held e = record { held = holds e }
 
