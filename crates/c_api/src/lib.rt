@@ -43,7 +43,7 @@ impl From<Result<i64, Refusal>> for Reading {
 
     fn from(told: Result<i64, Refusal>) -> Reading {
         Reading {
-            value: told.unwrap_or(0),
+            value: rainsheave::value_told(told),
             number: rainsheave::number_of_report(told),
         }
     }
@@ -62,7 +62,7 @@ impl From<Result<usize, Refusal>> for Sent {
 
     fn from(told: Result<usize, Refusal>) -> Sent {
         Sent {
-            length: told.unwrap_or(0),
+            length: rainsheave::bytes_sent(told),
             number: rainsheave::number_of_report(told),
         }
     }

@@ -1,7 +1,7 @@
 -- Document 01, "Numbers handed back", with wish 2 of document 02: 0 is done, an abort reply included; each other number refuses.
 use Rattle.std.specs.Prelude.{ℕ}
 use Rattle.device.specs.declared.refusal.Refusal.{Refusal}
-use Rattle.device.specs.declared.refusal.Refusal.TheVariants.{Unsound, WrongLength, NoRoom, NoReplyDue, NoFault, NoImageRoom, NotFull, BadValue, NotDisabled, ShortPdo}
+use Rattle.device.specs.declared.refusal.Refusal.TheVariants.{Unsound, WrongLength, NoRoom, NoReplyDue, NoFault, NoImageRoom, NotFull, BadValue, NotDisabled, ShortPdo, Other}
 
 -- the state isn't sound
 abbrev pub UNSOUND : ℕ
@@ -55,3 +55,4 @@ number_of_refusal NotFull = NOT_FULL
 number_of_refusal BadValue = BAD_VALUE
 number_of_refusal NotDisabled = NOT_DISABLED
 number_of_refusal ShortPdo = SHORT_PDO
+number_of_refusal (Other number) = number

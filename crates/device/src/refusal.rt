@@ -44,6 +44,8 @@ pub enum Refusal {
     NotDisabled,
     // a received PDO shorter than its map
     ShortPdo,
+    // a number of the caller's own, which no call hands back
+    Other(u8),
 }
 
 impl Refusal {
@@ -62,6 +64,7 @@ impl Refusal {
             Refusal::BadValue => BAD_VALUE,
             Refusal::NotDisabled => NOT_DISABLED,
             Refusal::ShortPdo => SHORT_PDO,
+            Refusal::Other(number) => number,
         }
     }
 }

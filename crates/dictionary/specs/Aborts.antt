@@ -4,7 +4,7 @@ use Rattle.mapping.specs.declared.Misfit.{Misfit}
 use Rattle.mapping.specs.declared.Misfit.TheVariants.{WhileCounted, AboveFour, NotMappable as MisfitNotMappable}
 use Rattle.dictionary.specs.declared.Abort.{Abort}
 use Rattle.dictionary.specs.declared.Abort.TheVariants.{UnknownCommand, NoObject, NoSubIndex, ReadOnlyEntry, TooManyBytes, TooFewBytes}
-use Rattle.dictionary.specs.declared.Abort.TheVariants.{TooHigh, TooLow, NoSuchChoice, LimitsCrossed, LockedNow, MapTooLong, NotMappable}
+use Rattle.dictionary.specs.declared.Abort.TheVariants.{TooHigh, TooLow, NoSuchChoice, LimitsCrossed, LockedNow, MapTooLong, NotMappable, Other}
 
 -- 1: another command byte
 abbrev pub UNKNOWN_COMMAND : ℕ
@@ -70,6 +70,7 @@ code_of_abort LimitsCrossed = LIMITS_CROSSED
 code_of_abort LockedNow = LOCKED_NOW
 code_of_abort MapTooLong = MAP_TOO_LONG
 code_of_abort NotMappable = NOT_MAPPABLE
+code_of_abort (Other code) = code
 
 -- the abort of each write that a map does not take
 abbrev pub abort_of : Misfit → Abort

@@ -63,6 +63,8 @@ pub enum Abort {
     LockedNow,
     MapTooLong,
     NotMappable,
+    // a code of the caller's own, which no call replies with
+    Other(u32),
 }
 
 impl Abort {
@@ -84,6 +86,7 @@ impl Abort {
             Abort::LockedNow => LOCKED_NOW,
             Abort::MapTooLong => MAP_TOO_LONG,
             Abort::NotMappable => NOT_MAPPABLE,
+            Abort::Other(code) => code,
         }
     }
 }

@@ -1,16 +1,16 @@
 -- Document 01, "Stored image": the fields of any slice are walked from the start, to the first field so tagged.
 use Rattle.std.specs.Prelude.{List, [], ℕ, zero, suc, ◌+◌, ◌-◌, length, take, drop, if◌then◌else◌, Result, Ok, Err}
-use Rattle.std.specs.declared.ops.Range.{Range}
 use Rattle.integers.specs.Words.{◌is◌, ◌below◌}
 use Rattle.coding.specs.Bytes.{byte_at}
 use Rattle.image.specs.Fields.{HEADER}
 use Rattle.image.specs.Load.{length_at}
+use Rattle.image.specs.declared.Part.{Part}
 use Rattle.image.specs.declared.Miss.{Miss}
 use Rattle.image.specs.declared.Miss.TheVariants.{Cut, Ended}
 
 -- what a walk meets: where the value of the field so tagged lies, or why there is none
 abbrev pub Found : Type 0
-Found = Result (Range ℕ) Miss
+Found = Result Part Miss
 
 -- where the field at k ends: after its header and its value
 abbrev pub end_at : List ℕ → ℕ → ℕ

@@ -9,9 +9,15 @@ ghost use Rattle.image.specs.Walk.{walk, part_of, begin_of, number_of_miss, code
 ghost use Rattle.image.specs.Asked.{Storing, Near, Putting, Starts, Walked};
 
 use objects::SETTINGS;
-use std::ops::Range;
 
 pub const IMAGE_LENGTH: usize = 97;
+
+// Where the value of a field lies in an image: from its start on, up to its end.
+#[derive(Clone, Copy)]
+pub struct Part {
+    pub start: usize,
+    pub end: usize,
+}
 
 // Why a walk over the fields meets none so tagged: one before it is cut short, or they have ended.
 #[derive(Clone, Copy)]
@@ -161,7 +167,7 @@ pub fn settings_in(image: &[u8]) -> [i64; SETTINGS]
 // ---- searching
 
 // The walk over the fields of any slice: where the value of the first one so tagged lies.
-pub fn locate(image: &[u8], tag: u8) -> Result<Range<usize>, Miss>
+pub fn locate(image: &[u8], tag: u8) -> Result<Part, Miss>
     ensures { Walked image.now tag result }
 {
     let mut k = 0;
@@ -176,7 +182,7 @@ pub fn locate(image: &[u8], tag: u8) -> Result<Range<usize>, Miss>
         }
         let end = from + length;
         if image[k] == tag {
-            return Ok(from..end);
+            return Ok(Part { start: from, end });
         }
         k = end;
     }

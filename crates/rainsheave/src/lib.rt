@@ -4,7 +4,7 @@
 ghost use Rattle.std.specs.Prelude.{◌≡◌, false, Ok, Err, OnOk, OnErr, IfErr};
 ghost use Rattle.device.specs.Sound.{sound_device, Sound};
 ghost use Rattle.sdo.specs.Serve.{answer};
-ghost use Rattle.rainsheave.specs.Calls.{change, number_of_report};
+ghost use Rattle.rainsheave.specs.Calls.{change, number_of_report, value_told, bytes_sent};
 ghost use Rattle.sdo.specs.Frames.{number_handed_back};
 ghost use Rattle.rainsheave.specs.Fixed.{
   FreshIs,
@@ -102,6 +102,20 @@ pub fn number_of_report<T: Copy>(report: Result<T, Refusal>) -> u8
         Ok(_) => DONE,
         Err(refusal) => refusal.number(),
     }
+}
+
+// The value handed back beside a query's number: 0 where it is refused.
+pub fn value_told(told: Result<i64, Refusal>) -> i64
+    ensures { result ≡ value_told told }
+{
+    told.unwrap_or(0)
+}
+
+// How many bytes were written where a PDO was to be sent: none where that is refused.
+pub fn bytes_sent(sent: Result<usize, Refusal>) -> usize
+    ensures { result ≡ bytes_sent sent }
+{
+    sent.unwrap_or(0)
 }
 
 // A device as it is when it is switched on: DISABLED, with every object fresh.

@@ -16,8 +16,8 @@ use std::fmt::{Display, Formatter, Write};
 // A run: its device, and the image that was stored last.
 #[derive(Clone, Copy)]
 pub struct Run {
-    device: Device,
-    image: [u8; IMAGE_LENGTH],
+    pub device: Device,
+    pub image: [u8; IMAGE_LENGTH],
 }
 
 // The most room that a call is lent, and every byte of it before the call.
@@ -74,7 +74,7 @@ struct Answer(Result<i64, Refusal>);
 impl Display for Answer {
     fn fmt<W: Write>(&self, f: &mut Formatter<W>) -> fmt::Result {
         let number = rainsheave::number_of_report(self.0);
-        let value = self.0.unwrap_or(0);
+        let value = rainsheave::value_told(self.0);
         write!(f, "{number}/{value}")
     }
 }
@@ -160,7 +160,8 @@ impl Run {
         let room = first_mut(&mut room, usize::from(length));
         let sent = rainsheave::send(self.device, room);
         let number = rainsheave::number_of_report(sent);
-        write!(line, "send {number} {}{}", sent.unwrap_or(0), Bytes(room))
+        let length = rainsheave::bytes_sent(sent);
+        write!(line, "send {number} {length}{}", Bytes(room))
     }
 
     // So many single ticks. The report is that of the last; where there is none, nothing is refused.
@@ -304,9 +305,9 @@ impl Run {
     // that each query has a value.
     fn trace_device(&self, line: &mut impl Write) -> fmt::Result {
         let device = self.device;
-        let state = rainsheave::state(device).unwrap_or(0);
-        let status = rainsheave::status(device).unwrap_or(0);
-        let position = rainsheave::position(device).unwrap_or(0);
+        let state = rainsheave::value_told(rainsheave::state(device));
+        let status = rainsheave::value_told(rainsheave::status(device));
+        let position = rainsheave::value_told(rainsheave::position(device));
         let phase = device.dither.phase;
         writeln!(line, " | {state} {status} {position} {phase}")
     }
