@@ -44,7 +44,7 @@ pub enum Refusal {
     NotDisabled,
     // a received PDO shorter than its map
     ShortPdo,
-    // a number of the caller's own, which no call hands back
+    // a number of the caller's own, by which no call refuses
     Other(u8),
 }
 

@@ -63,7 +63,7 @@ pub enum Abort {
     LockedNow,
     MapTooLong,
     NotMappable,
-    // a code of the caller's own, which no call replies with
+    // a code of the caller's own, which no decision has
     Other(u32),
 }
 

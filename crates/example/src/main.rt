@@ -142,7 +142,7 @@ fn fault(rt: &impl Print, valve: Device, code: u16) -> io::Result<Device> {
 // Writes the set point and ticks as often as the device says. Firmware ticks from a timer, once a millisecond, and puts the command out.
 fn go_to(rt: &impl Print, valve: Device, set_point: i32) -> io::Result<Device> {
     let mut valve = set(rt, valve, SET_POINT, set_point)?;
-    for tick in 1..=rainsheave::ticks_to_go(valve).unwrap_or(0) {
+    for tick in 1..=rainsheave::value_told(rainsheave::ticks_to_go(valve)) {
         print!(rt; "tick {tick}")?;
         valve = show_change(rt, rainsheave::tick(valve))?;
     }
