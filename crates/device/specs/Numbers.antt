@@ -43,7 +43,7 @@ NOT_DISABLED = 9
 abbrev pub SHORT_PDO : ℕ
 SHORT_PDO = 14
 
--- the number handed back for a refusal
+-- the number handed back for a refusal; `Other` has a number of the caller's own, by which no call refuses
 abbrev pub number_of_refusal : Refusal → ℕ
 number_of_refusal Unsound = UNSOUND
 number_of_refusal WrongLength = WRONG_LENGTH

@@ -55,7 +55,7 @@ MAP_TOO_LONG = 0x06040042
 abbrev pub NOT_MAPPABLE : ℕ
 NOT_MAPPABLE = 0x06040041
 
--- the code of each
+-- the code of each; `Other` has a code of the caller's own, which no decision of the library has
 abbrev pub code_of_abort : Abort → ℕ
 code_of_abort UnknownCommand = UNKNOWN_COMMAND
 code_of_abort NoObject = NO_OBJECT

@@ -63,7 +63,7 @@ pub enum Abort {
     LockedNow,
     MapTooLong,
     NotMappable,
-    // a code of the caller's own, which no decision has
+    // a code of the caller's own, which no decision of the library has
     Other(u32),
 }
 
