@@ -1,17 +1,18 @@
 -- Where an abort comes from. Each test of the order gives its code or passes on; so what holds of the fifth place's abort where sizes differ, of an abort with another place's code, and of all that is not aborted holds of every decision.
 use Rattle.std.specs.Prelude.{Option, Some, None, Result, Ok, Err}
-use mathlib.Core.Bool.{Bool, true, false, not}
+use mathlib.Core.Bool.{Bool, true, false, not, ◌&&◌}
 use mathlib.Core.List.{List, [], ◌∷◌}
 use mathlib.Core.Logic.{◌≢◌}
 use mathlib.Core.Path.{◌≡◌, refl}
 use Prim.Native.Nat.{ℕ, ◌<◌}
 use native.Mathlib.Omega.{arith}
 use borrow.Author.Tests.{eqb-false, ne_eqb, lt-ltb, le-ltb, not-true, not-false}
-use lib.Dec.{eqb}
+use lib.Dec.{eqb, ltb}
 use lib.IntN.{ℤ}
 use lib.Signed.{lt_z}
 use Rattle.integers.specs.Words.{◌among◌}
 use Rattle.integers.proofs.Cases.{by_test}
+use Rattle.integers.proofs.Each.{and_split}
 use Rattle.objects.specs.Places.{WRITABLE}
 use Rattle.objects.specs.Table.{row_at}
 use Rattle.objects.specs.Lookup.{place_of, entry_at}
@@ -29,7 +30,7 @@ use Rattle.dictionary.specs.Decide.{size_abort, range_abort, crosses, is_locked,
 use Rattle.dictionary.specs.declared.Decision.{Decision}
 use Rattle.dictionary.specs.declared.Decision.TheVariants.{Read, Write}
 use Rattle.dictionary.specs.declared.Abort.{Abort}
-use Rattle.dictionary.specs.declared.Abort.TheVariants.{ReadOnlyEntry}
+use Rattle.dictionary.specs.declared.Abort.TheVariants.{ReadOnlyEntry, Other as CallersOwn}
 use Rattle.dictionary.specs.declared.Abort.TheVariants.{TooHigh, TooLow, LimitsCrossed, LockedNow, MapTooLong, NotMappable}
 use Rattle.dictionary.proofs.Laws.{InTable, named_in_table}
 
@@ -37,10 +38,22 @@ use Rattle.dictionary.proofs.Laws.{InTable, named_in_table}
 abbrev pub OTHERS : List ℕ
 OTHERS = UNKNOWN_COMMAND ∷ NO_OBJECT ∷ NO_SUB_INDEX ∷ READ_ONLY_ENTRY ∷ TOO_HIGH ∷ TOO_LOW ∷ NO_SUCH_CHOICE ∷ LIMITS_CROSSED ∷ LOCKED_NOW ∷ MAP_TOO_LONG ∷ NOT_MAPPABLE ∷ []
 
-abbrev pub Other : Abort → Type 0
-Other abort = code_of_abort abort among OTHERS ≡ true
+-- document 01's own aborts: each but a code of a caller's own
+abbrev pub listed_abort : Abort → Bool
+listed_abort (CallersOwn code) = false
+listed_abort abort = true
 
--- a choice's code is one of them too
+-- one of them, with another place's code
+abbrev pub Other : Abort → Type 0
+Other abort = listed_abort abort && code_of_abort abort among OTHERS ≡ true
+
+pub other_listed : (abort : Abort) → Other abort → listed_abort abort ≡ true
+other_listed abort o = (and_split (listed_abort abort) (code_of_abort abort among OTHERS) o).0
+
+pub other_code : (abort : Abort) → Other abort → code_of_abort abort among OTHERS ≡ true
+other_code abort o = (and_split (listed_abort abort) (code_of_abort abort among OTHERS) o).1
+
+-- a choice's abort, for either way out of its range, is one too
 range_other : (choice : Bool) (abort : Abort) → Other abort → Other (range_abort choice abort)
 range_other true abort h = refl
 range_other false abort h = h
@@ -80,8 +93,8 @@ by_verdict P d which place size x differ other written =
 
 -- ---- decisions
 
--- the code with which nothing is named is another place's
-abbrev OtherCode : Named → Type 0
+-- the abort with which nothing is named is another place's
+abbrev pub OtherCode : Named → Type 0
 OtherCode (value which place) = Unit {0}
 OtherCode (byte number) = Unit {0}
 OtherCode (nothing abort) = Other abort
@@ -91,7 +104,7 @@ entered_code which place (Some (Value k)) = tt
 entered_code which place (Some (Fixed number)) = tt
 entered_code which place None = refl
 
-named_code : (index sub : ℕ) → OtherCode (named index sub)
+pub named_code : (index sub : ℕ) → OtherCode (named index sub)
 unfolding named
 named_code index sub = by (place_of index)
   where
@@ -118,3 +131,19 @@ by_write P d index sub size number differ other done = by (named index sub) refl
     by (value which place) f h o = by_verdict P d which place size _ (λ w n. differ which place f (writable_below place h.row w) n) other (done which place _)
     by (byte fixed) f h o = other ReadOnlyEntry refl
     by (nothing abort) f h o = other abort o
+
+-- ---- no decision aborts by a code of a caller's own
+
+abbrev pub AbortListed : {A : Type 0} → Result A Abort → Type 0
+AbortListed (Ok decided) = Unit {0}
+AbortListed (Err abort) = listed_abort abort ≡ true
+
+-- the fifth place's is document 01's too, whichever way the sizes differ
+pub size_listed : (has sent : ℕ) → listed_abort (size_abort has sent) ≡ true
+size_listed has sent = by_test (λ (abort : Abort). listed_abort abort ≡ true) (ltb has sent) (λ e. refl) (λ e. refl)
+
+pub read_listed : (d : Device) (index sub : ℕ) → AbortListed (read_decision d index sub)
+read_listed d index sub = by_read AbortListed d index sub other_listed (λ size number. tt)
+
+pub write_listed : (d : Device) (index sub size number : ℕ) → AbortListed (write_decision d index sub size number)
+write_listed d index sub size number = by_write AbortListed d index sub size number (λ which place n b s. size_listed _ _) other_listed (λ which place x. tt)

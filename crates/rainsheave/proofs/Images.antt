@@ -18,9 +18,9 @@ use Rattle.block.proofs.Sound.{SettingsParts, block_parts, settings_parts, setti
 use Rattle.device.specs.States.{DISABLED}
 use Rattle.device.specs.Sound.{sound_device, Sound}
 use Rattle.device.specs.declared.Device.{Device}
-use Rattle.device.specs.declared.refusal.Refusal.{Refusal}
 use Rattle.device.specs.declared.refusal.Refusal.TheVariants.{Unsound, NotFull, BadValue, NotDisabled}
 use Rattle.device.proofs.Laws.{block_of_same, with_block_of_itself, block_of_sound_device, with_block_of_sound}
+use Rattle.device.proofs.Refusals.{ListedRefusal}
 use Rattle.image.specs.Fields.{IMAGE_LENGTH, image_of, stored_in}
 use Rattle.image.specs.Load.{is_full, settings_in}
 use Rattle.image.proofs.Trip.{Bytes, image_length, image_is_full, settings_stored, image_read}
@@ -54,15 +54,15 @@ store_leaves_image {d} s room h =
 
 -- ---- a load by its cases
 
--- what holds of a refusal, which hands the device back, and of a load done holds of the answer
-pub by_load : (P : Change → Type 0) (d : Device) (image : List ℕ) → ((refusal : Refusal) → P (change (Err refusal) d)) → (is_full image ≡ true → sound_settings (settings_in image) ≡ true → P (change (Ok tt) (loaded (settings_in image) d))) → P (load_answer d image)
+-- what holds of a refusal of the paper's, which hands the device back, and of a load done holds of the answer
+pub by_load : (P : Change → Type 0) (d : Device) (image : List ℕ) → ((refusal : ListedRefusal) → P (change (Err refusal.0) d)) → (is_full image ≡ true → sound_settings (settings_in image) ≡ true → P (change (Ok tt) (loaded (settings_in image) d))) → P (load_answer d image)
 unfolding load_answer
 by_load P d image refused done =
     by_test P (sound_device d)
-    (λ e. by_test P (not (eqb d.state DISABLED)) (λ f. refused NotDisabled)
-    (λ f. by_test P (not (is_full image)) (λ g. refused NotFull)
-    (λ g. by_test P (not (sound_settings (settings_in image))) (λ h. refused BadValue) (λ h. done (not-false _ g) (not-false _ h)))))
-    (λ e. refused Unsound)
+    (λ e. by_test P (not (eqb d.state DISABLED)) (λ f. refused (NotDisabled, refl))
+    (λ f. by_test P (not (is_full image)) (λ g. refused (NotFull, refl))
+    (λ g. by_test P (not (sound_settings (settings_in image))) (λ h. refused (BadValue, refl)) (λ h. done (not-false _ g) (not-false _ h)))))
+    (λ e. refused (Unsound, refl))
 
 -- an image that loads is the image of the device that it loads into: it has no other reading
 pub one_reading : (d : Device) {image : List ℕ} → Bytes image → (load_answer d image).report ≡ Ok tt → image_of (stored_settings (load_answer d image).device) ≡ image

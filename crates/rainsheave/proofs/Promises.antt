@@ -24,6 +24,7 @@ use Rattle.device.specs.declared.Device.{Device}
 use Rattle.device.specs.declared.refusal.Refusal.{Refusal}
 use Rattle.device.specs.declared.refusal.Refusal.TheVariants.{Unsound, WrongLength, NoRoom, NoReplyDue}
 use Rattle.device.proofs.Laws as Devices
+use Rattle.device.proofs.Refusals.{ListedRefusal}
 use Rattle.dictionary.specs.Named.{named}
 use Rattle.dictionary.specs.Values.{written_to}
 use Rattle.dictionary.specs.Decide.{crosses, is_locked, map_ruling, verdict_on, write_of, write_decision}
@@ -41,14 +42,14 @@ use Rattle.rainsheave.specs.declared.Change.{Change}
 
 -- ---- a refusal leaves everything as it was
 
--- what holds of a refusal, which hands the device back, and of what is served, to eight bytes, holds of the answer
-pub by_sdo : (P : Answer → Type 0) (d : Device) (request : List ℕ) (room : ℕ) → ((refusal : Refusal) → P (answer (Refused refusal) d)) → (length request ≡ FRAME → P (served d (request_of request))) → P (sdo_answer d request room)
+-- what holds of a refusal of the paper's, which hands the device back, and of what is served, to eight bytes, holds of the answer
+pub by_sdo : (P : Answer → Type 0) (d : Device) (request : List ℕ) (room : ℕ) → ((refusal : ListedRefusal) → P (answer (Refused refusal.0) d)) → (length request ≡ FRAME → P (served d (request_of request))) → P (sdo_answer d request room)
 unfolding sdo_answer
 by_sdo P d request room refused done =
-    by_test P (not (sound_device d)) (λ e. refused Unsound)
-    (λ e. by_test P (not (eqb (length request) FRAME)) (λ f. refused WrongLength)
-    (λ f. by_test P (ltb room FRAME) (λ g. refused NoRoom)
-    (λ g. by_test P (is_client_abort (byte_at request 0)) (λ i. refused NoReplyDue) (λ i. done (eqb-true _ _ (not-false _ f))))))
+    by_test P (not (sound_device d)) (λ e. refused (Unsound, refl))
+    (λ e. by_test P (not (eqb (length request) FRAME)) (λ f. refused (WrongLength, refl))
+    (λ f. by_test P (ltb room FRAME) (λ g. refused (NoRoom, refl))
+    (λ g. by_test P (is_client_abort (byte_at request 0)) (λ i. refused (NoReplyDue, refl)) (λ i. done (eqb-true _ _ (not-false _ f))))))
 
 -- whatever is answered but a write done, the device is the given one
 pub sdo_unchanged : (d : Device) (request : List ℕ) (room : ℕ) → (sdo_answer d request room).outcome ≢ Written → (sdo_answer d request room).device ≡ d

@@ -11,7 +11,7 @@ use Rattle.dictionary.specs.Named.{value, named}
 use Rattle.dictionary.specs.Decide.{size_abort, write_of, write_decision}
 use Rattle.dictionary.specs.declared.Decision.{Decision}
 use Rattle.dictionary.specs.declared.Abort.{Abort}
-use Rattle.dictionary.proofs.Aborts.{Other, size_aborts, by_read, by_write}
+use Rattle.dictionary.proofs.Aborts.{Other, AbortListed, size_aborts, by_read, by_write, read_listed, write_listed}
 use Rattle.sdo.specs.Frames.{asks_of}
 use Rattle.sdo.specs.Serve.{decision_by, decision_on, outcome_of, served}
 use Rattle.sdo.specs.declared.Request.{Request}
@@ -49,3 +49,13 @@ by_outcome P d q meets other read written = by (asks_of q.command) refl
         other
         (λ which place x. written)
     by (Err abort) f = other abort (rw (asks_unknown q.command abort f))
+
+-- no request is aborted by a code of a caller's own
+pub decision_listed : (d : Device) (q : Request) → AbortListed (decision_on d q)
+unfolding decision_on
+decision_listed d q = by (asks_of q.command) refl
+  where
+    by : (a : Result Asks Abort) → asks_of q.command ≡ a → AbortListed (decision_by a d q)
+    by (Ok Reads) f = read_listed d q.index q.sub
+    by (Ok (Writes size)) f = write_listed d q.index q.sub size q.number
+    by (Err abort) f = rw (asks_unknown q.command abort f)

@@ -301,8 +301,8 @@ impl Run {
         }
     }
 
-    // The end of a line: the device after the event, and its phase, of which there is no query. A device of the run is always sound, so
-    // that each query has a value.
+    // The end of a line: the device after the event, and its phase, of which there is no query. A run that begins fresh has a sound
+    // device, unless the caller puts in another, so that each query has a value.
     fn trace_device(&self, line: &mut impl Write) -> fmt::Result {
         let device = self.device;
         let state = rainsheave::value_told(rainsheave::state(device));
